@@ -1,0 +1,9 @@
+pub mod Spots
+pub mod Books
+pub mod Nets
+pub mod Rewriting
+pub mod Reaching
+pub mod Alike
+pub mod NewCells
+pub mod Combinators
+pub mod Counts

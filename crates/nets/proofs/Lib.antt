@@ -1,0 +1,5 @@
+pub mod Places
+pub mod Standing
+pub mod Fronts
+pub mod Plans
+pub mod Sealing

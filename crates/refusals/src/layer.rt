@@ -1,0 +1,11 @@
+/// The part of the engine that a refusal comes from, in the order of the parts.
+#[derive(Clone, Copy, PartialEq, Eq, Debug)]
+pub enum Layer {
+    Order,
+    Text,
+    File,
+    Net,
+    Strategy,
+    Run,
+    Reading,
+}
