@@ -10,7 +10,7 @@ use lib.ListN.{length, getD}
 use Rattle.std.proofs.shelf.Tests.{cases-lt}
 use Rattle.calculus.proofs.Tests.{below?, below-at}
 use Rattle.nets.specs.Layout.{bit}
-use Rattle.nets.specs.Drafts.{Front}
+use Rattle.nets.specs.Inner.{Front}
 use Rattle.nets.proofs.Places.{bit-at, bit-past}
 
 -- the lowest b bits of a byte are set, and no other

@@ -14,7 +14,8 @@ use Rattle.calculus.specs.Spots.{Spot, end, port}
 use Rattle.nets.specs.declared.draft.Draft.{Draft}
 use Rattle.nets.specs.declared.link.Link.{Link}
 use Rattle.nets.specs.Layout.{slots, code, decode, goal, slotOf, nil}
-use Rattle.nets.specs.Drafts.{plan, planned, Faulty, Before, Tested}
+use Rattle.nets.specs.Drafts.{plan, planned, Faulty, Before}
+use Rattle.nets.specs.Inner.{Tested}
 use Rattle.nets.proofs.Standing.{either, Drawn, decode-code, code-decode, code-small}
 
 module _ (d : Draft) where
@@ -56,26 +57,22 @@ module _ (d : Draft) where
     mutual-link n p b (q, inr (inr e)) = e (twice ∙ ap decode b ∙ decode-code x (planned-drawn x h))
 
     -- what is left to test is whether the link is named back
-    pub tested-back : (s k : ℕ) → k ≡ code x → s ≡ goals (goals (code x)) → goals (code x) ≢ code x → planned (plan d) (decode (goals (code x))) ≡ true →
-        Tested (plan d) x (not (eqb s k))
-    tested-back s k e f n p = go (cases-eq s k)
+    pub tested-back : (t k : ℕ) (r : Bool) → k ≡ code x → t ≡ goals (code x) → r ≡ eqb (goals t) k → goals (code x) ≢ code x →
+        planned (plan d) (decode (goals (code x))) ≡ true → Tested (plan d) x (not r)
+    tested-back t k r e f v n p = go (cases-eq (goals t) k)
       where
-        go : (s ≡ k) ⊎ (s ≢ k) → Tested (plan d) x (not (eqb s k))
+        go : (goals t ≡ k) ⊎ (goals t ≢ k) → Tested (plan d) x (not r)
         go (inl q) =
-            let b : not (eqb s k) ≡ false = grind (arith) in
-            subst (Tested (plan d) x) (sym b) (mutual-link n p (sym f ∙ q ∙ e))
+            let b : not r ≡ false = grind (arith) in
+            subst (Tested (plan d) x) (sym b) (mutual-link n p (ap goals (sym f) ∙ q ∙ e))
         go (inr q) =
-            let b : not (eqb s k) ≡ true = grind (arith) in
-            subst (Tested (plan d) x) (sym b) (not-back (λ z. q (f ∙ z ∙ sym e)))
+            let b : not r ≡ true = grind (arith) in
+            subst (Tested (plan d) x) (sym b) (not-back (λ z. q (ap goals f ∙ z ∙ sym e)))
 
     -- the link read at a slot
     pub read-here : (k : ℕ) (l : Link) → k ≡ code x → l ≡ getD (vec-items (d .links)) k l → slotOf l ≡ goals (code x)
     read-here k l e f =
         ap slotOf (getD-read (vec-items (d .links)) k l (let z = here-small in omega (arith, d .long)) f nil) ∙ ap goals e
-
-    pub read-there : (k : ℕ) (l : Link) → k ≡ goals (code x) → l ≡ getD (vec-items (d .links)) k l → slotOf l ≡ goals (goals (code x))
-    read-there k l e f =
-        ap slotOf (getD-read (vec-items (d .links)) k l (let z = there-small in omega (arith, d .long)) f nil) ∙ ap goals e
 
   -- no port above 2 is there
   pub high-port : (r j : ℕ) → 3 ≤ j → Faulty (plan d) (port r j) → ⊥

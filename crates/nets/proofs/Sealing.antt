@@ -15,7 +15,8 @@ use Rattle.nets.specs.declared.draft.Draft.{Draft}
 use Rattle.nets.specs.declared.link.Link.{Link}
 use Rattle.nets.specs.Layout.{code, decode, goal, bit, inUse, Names-standing, Names-back, Names-other}
 use Rattle.nets.specs.Meaning.{Content, kind-at, arity-at, mate-of}
-use Rattle.nets.specs.Drafts.{plan, planned, Faulty, Front}
+use Rattle.nets.specs.Drafts.{plan, planned, Faulty}
+use Rattle.nets.specs.Inner.{Front}
 use Rattle.nets.proofs.Standing.{either, code-decode, there, at-slot}
 use Rattle.nets.proofs.Plans.{names-self, names-absent, not-back}
 

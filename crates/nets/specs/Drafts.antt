@@ -1,11 +1,10 @@
 -- Tables in the making: cells in places 0, 1, 2 and on, and links as they are named, mutual or not. Assumes nothing.
 use mathlib.Core.Path.{_≡_}
 use mathlib.Core.Bool.{Bool, true, false, cond, _&&_}
-use mathlib.Core.List.{List}
 use mathlib.Core.Logic.{_⊎_, inl, inr, _≢_}
 use Prim.Native.Nat.{ℕ, _+_, _-_, _^_, _<_, min}
 use lib.Dec.{ltb, leb}
-use lib.ListN.{getD, length}
+use lib.ListN.{getD}
 use Rattle.std.specs.Of.Vec.{vec-items}
 use Rattle.std.specs.declared.option.Option.{Option}
 use Rattle.std.specs.declared.option.Option.the-variants.{Some, None}
@@ -15,7 +14,7 @@ use Rattle.calculus.specs.Spots.{Spot, end, port}
 use Rattle.nets.specs.declared.draft.Draft.{Draft}
 use Rattle.nets.specs.declared.spot.Spot.{Spot as Seen}
 use Rattle.nets.specs.declared.table.Table.{Table}
-use Rattle.nets.specs.Layout.{code, decode, goal, bit}
+use Rattle.nets.specs.Layout.{code, decode, goal}
 use Rattle.nets.specs.Meaning.{net, content, arity-at}
 use Rattle.nets.specs.Views.{at}
 
@@ -104,22 +103,3 @@ pub record Realised (p : Plan) (t : Table) : Type 0 where
 abbrev pub Sealing : Plan → Result Table Seen → Type 0
 Sealing p (Ok t) = Realised p t × ((x : Spot) → Faulty p x → ⊥)
 Sealing p (Err x) = Faulty p (at x) × ((y : Spot) → Before y (at x) → Faulty p y → ⊥)
-
--- the first fault of all
-abbrev pub Searched : Plan → Option Seen → Type 0
-Searched p None = (x : Spot) → Faulty p x → ⊥
-Searched p (Some x) = Faulty p (at x) × ((y : Spot) → Before y (at x) → Faulty p y → ⊥)
-
--- the first fault of the cell in place r
-abbrev pub SearchedCell : Plan → ℕ → Option Seen → Type 0
-SearchedCell p r None = (j : ℕ) → Faulty p (port r j) → ⊥
-SearchedCell p r (Some x) = (j : ℕ) × (at x ≡ port r j) × Faulty p (at x) × ((i : ℕ) → i < j → Faulty p (port r i) → ⊥)
-
--- whether the spot's link is at fault
-abbrev pub Tested : Plan → Spot → Bool → Type 0
-Tested p x true = Faulty p x
-Tested p x false = Faulty p x → ⊥
-
--- just the first n places are occupied
-abbrev pub Front : ℕ → List ℕ → Type 0
-Front n map = (length map ≡ 128) × ((r : ℕ) → bit map r ≡ cond (ltb r n) 1 0)

@@ -1,14 +1,10 @@
 -- What is answered of a table. Assumes nothing.
 use mathlib.Core.Path.{_≡_}
-use mathlib.Core.Bool.{true, false}
 use mathlib.Core.Logic.{_≢_}
-use Prim.Native.Nat.{ℕ}
 use Rattle.std.specs.declared.option.Option.{Option}
 use Rattle.std.specs.declared.option.Option.the-variants.{Some, None}
 use Rattle.calculus.specs.Spots.{Spot, end, port}
 use Rattle.calculus.specs.Nets.{Net}
-use Rattle.nets.specs.Layout.{code, stands}
-use Rattle.nets.specs.Meaning.{Content}
 use Rattle.nets.specs.declared.spot.Spot.{Spot as Seen}
 use Rattle.nets.specs.declared.spot.Spot.the-variants.{End, Port}
 
@@ -21,8 +17,3 @@ at (Port r j) = port r j
 abbrev pub Mated : Net → Spot → Option Seen → Type 0
 Mated A x None = A .mate x ≡ x
 Mated A x (Some y) = (A .mate x ≡ at y) × (at y ≢ x) × (A .mate (at y) ≡ x)
-
--- the slot of x, if x is there
-abbrev pub Slotted : Content → Spot → Option ℕ → Type 0
-Slotted c x None = stands (c .arities) (c .occupied) (c .ends) x ≡ false
-Slotted c x (Some k) = (stands (c .arities) (c .occupied) (c .ends) x ≡ true) × (k ≡ code x)

@@ -2,12 +2,14 @@
 ghost use mathlib.Core.Path.{_≡_};
 ghost use mathlib.Core.Bool.{true, false, cond, _&&_};
 ghost use Prim.Native.Nat.{ℕ, _+_, _*_, _/_, _%_, _^_, _<_, _≤_};
-ghost use lib.Dec.{ltb, leb};
+ghost use lib.Dec.{ltb, leb, eqb};
 ghost use lib.ListN.{length};
+ghost use Rattle.std.specs.Of.Vec.{vec-items};
 ghost use Rattle.std.specs.Vec.{made};
-ghost use Rattle.nets.specs.Layout.{slots, slotOf, code, decode};
+ghost use Rattle.nets.specs.Layout.{slots, slotOf, code, decode, goal};
 ghost use Rattle.nets.specs.Views.{at};
-ghost use Rattle.nets.specs.Drafts.{plan, planned, nameable, Begun, CellAdded, LinkNamed, Attempt, Sealing, Searched, SearchedCell, Tested, Front};
+ghost use Rattle.nets.specs.Drafts.{plan, planned, nameable, Begun, CellAdded, LinkNamed, Attempt, Sealing};
+ghost use Rattle.nets.specs.Inner.{Searched, SearchedCell, Tested, Front};
 use crate::draft::Draft;
 use crate::link::Link;
 use crate::spot::Spot;
@@ -175,7 +177,15 @@ impl Draft {
         if !self.has_slot(there) {
             return true;
         }
-        slot_of(self.links[there]) != here
+        !self.names(there, here)
+    }
+
+    // Whether the link at one slot names the other.
+    fn names(&self, from: usize, to: usize) -> bool
+        requires { ⌜ from < slots ⌝ }
+        ensures { λ r. ⌜ r ≡ eqb (goal (vec-items (now (self .entry) .links)) from) to ⌝ }
+    {
+        slot_of(self.links[from]) == to
     }
 
     // Whether the slot is that of a spot that is there.

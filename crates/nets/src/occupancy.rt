@@ -1,6 +1,7 @@
 // The occupancy map: one bit a place.
 ghost use mathlib.Core.Path.{_≡_};
-ghost use mathlib.Core.Bool.{Bool};
+ghost use mathlib.Core.Bool.{true};
+ghost use Prim.Native.Nat.{_<_};
 ghost use lib.Dec.{eqb};
 ghost use lib.Count.{ones};
 ghost use Rattle.std.specs.shelf.Lists.{sumBy};
@@ -9,7 +10,8 @@ ghost use Rattle.nets.specs.Meaning.{Content, net-of, cells-below};
 
 /// Whether a cell stands in the place.
 pub fn is_occupied(map: &[u8; 128], place: u16) -> bool
-    ensures { λ r. ⌜ r ≡ eqb (bit (now (map .entry)) place) 1 ⌝ }
+    ensures bit { λ r. ⌜ r ≡ eqb (bit (now (map .entry)) place) 1 ⌝ }
+    ensures low { λ r. ⌜ (r ≡ true → place < 1024) ⌝ }
 {
     let byte = place as usize / 8;
     byte < 128 && (map[byte] >> (place % 8)) % 2 == 1

@@ -10,4 +10,4 @@ pub returns-else-byte-lt128 : need.returns-else-byte-lt128
 returns-else-byte-lt128 c =
     let h : length (c .args .map .now) ≤ c .args .place / 8 = omega arith in
     let z = bit-past (c .args .map .now) (c .args .place) h in
-    grind (arith)
+    record { bit = grind (arith); low = λ e. absurd (grind (arith)) }
