@@ -43,5 +43,5 @@ returns c =
     let t = read-here d x (c .pre) (c .slot-of-here .result) (c .index .result .now) k (c .index .ensures) in
     let u : c .slot-of-there .result ≡ goal (vec-items (c .args .self .now .links)) (code (at (c .args .spot))) = c .slot-of-there .ensures ∙ t in
     tested-back d x (c .pre) (c .slot-of-there .result) (c .slot-of-here .result) (c .names .result) k u (c .names .ensures)
-        (λ e. c .if-there-here .left (u ∙ e ∙ sym k))
-        (ap (λ (s : ℕ). planned (plan (c .args .self .now)) (decode s)) (sym u) ∙ sym (c .if-not-has-slot .ensures tt))
+    (λ e. c .if-there-here .left (u ∙ e ∙ sym k))
+    (ap (λ (s : ℕ). planned (plan (c .args .self .now)) (decode s)) (sym u) ∙ sym (c .if-not-has-slot .ensures tt))
