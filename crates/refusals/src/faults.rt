@@ -5,14 +5,14 @@ use crate::layer::Layer;
 use crate::refusal::Refusal;
 
 /// Why a program's order is refused.
-#[derive(Clone, Copy, PartialEq, Eq, Debug)]
+#[derive(Clone, Copy)]
 pub enum OrderFault {
     /// There is no strategy line.
     NoStrategy,
 }
 
 /// Why a text is refused as a term; places count bytes.
-#[derive(Clone, Copy, PartialEq, Eq, Debug)]
+#[derive(Clone, Copy)]
 pub enum TextFault {
     /// The text is over 8,192 bytes long.
     TooLong,
@@ -29,7 +29,7 @@ pub enum TextFault {
 }
 
 /// Why a file is refused, or not written; places count words.
-#[derive(Clone, Copy, PartialEq, Eq, Debug)]
+#[derive(Clone, Copy)]
 pub enum FileFault {
     /// The output buffer is under 16,648 bytes.
     NoRoom,
@@ -46,14 +46,14 @@ pub enum FileFault {
 }
 
 /// Why links are refused as a net's; places count words of the file.
-#[derive(Clone, Copy, PartialEq, Eq, Debug)]
+#[derive(Clone, Copy)]
 pub enum NetFault {
     /// A link to itself, beyond the arity of its target, or not named back.
     NotMutual(u32),
 }
 
 /// Why a strategy refuses.
-#[derive(Clone, Copy, PartialEq, Eq, Debug)]
+#[derive(Clone, Copy)]
 pub enum StrategyFault {
     /// No pair waits.
     Empty,
@@ -62,7 +62,7 @@ pub enum StrategyFault {
 }
 
 /// Why a run refuses.
-#[derive(Clone, Copy, PartialEq, Eq, Debug)]
+#[derive(Clone, Copy)]
 pub enum RunFault {
     /// The slip's stamp or pair is not out here.
     Foreign,
@@ -75,7 +75,7 @@ pub enum RunFault {
 }
 
 /// Why a net is not read back as a term.
-#[derive(Clone, Copy, PartialEq, Eq, Debug)]
+#[derive(Clone, Copy)]
 pub enum ReadingFault {
     /// The output buffer is under 8,192 bytes.
     NoRoom,

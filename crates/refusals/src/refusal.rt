@@ -1,12 +1,10 @@
 ghost use Rattle.std.specs.declared.option.Option.the-variants.{Some};
 ghost use Rattle.refusals.specs.Shown.{layer-name, shown-as};
 use crate::layer::Layer;
-use crate::layer::LayerDebug;
-use crate::layer::LayerPartialEq;
 use std::fmt;
 
 /// A refusal: its number, the layer that refuses, and the place in the input (0 if none is named).
-#[derive(Clone, Copy, PartialEq, Eq, Debug)]
+#[derive(Clone, Copy)]
 pub struct Refusal {
     pub number: u8,
     pub layer: Layer,
