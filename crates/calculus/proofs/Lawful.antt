@@ -48,7 +48,7 @@ same-port (N i k) (N j l) t =
     let f = eqb-true k l (p .1) in
     cc
 
-same-self : (x : RulePort) → same? x x ≡ true
+pub same-self : (x : RulePort) → same? x x ≡ true
 same-self (L i) = eq-eqb i i refl
 same-self (R i) = eq-eqb i i refl
 same-self (N i k) = and-from (eqb i i) (eqb k k) (eq-eqb i i refl) (eq-eqb k k refl)
@@ -76,7 +76,7 @@ abbrev ports : List (RulePort × RulePort) → List RulePort
 ports [] = []
 ports (p ∷ ps) = p .0 ∷ p .1 ∷ ports ps
 
-wired-back : (ws : List (RulePort × RulePort)) (x y : RulePort) → Wired ws x y → Wired ws y x
+pub wired-back : (ws : List (RulePort × RulePort)) (x y : RulePort) → Wired ws x y → Wired ws y x
 wired-back [] x y h = h
 wired-back (p ∷ ps) x y (inl h) = inr (inl (h .1, h .0))
 wired-back (p ∷ ps) x y (inr (inl h)) = inl (h .1, h .0)
@@ -143,21 +143,21 @@ with-other (p ∷ ps) t x y (inr (inr h)) e = with-other ps (apart p ps t .rest)
 -- ── the ports that a rule has to pair ──
 
 -- a cell whose kind has this arity, if the book has the kind, has a port j
-abbrev fits? : ℕ → Option ℕ → Bool
+abbrev pub fits? : ℕ → Option ℕ → Bool
 fits? j None = false
 fits? j (Some a) = leb j a
 
-abbrev has? : RuleBook → ℕ → ℕ → Bool
+abbrev pub has? : RuleBook → ℕ → ℕ → Bool
 has? K k j = fits? j (K .arity k)
 
 fits-at : (j : ℕ) (o : Option ℕ) → fits? j o ≡ true → (a : ℕ) × (o ≡ Some a) × (j ≤ a)
 fits-at j None t = absurd (both-ways false refl t)
 fits-at j (Some a) t = (a, refl, leb-true j a t)
 
-has-port : (K : RuleBook) (k j : ℕ) → has? K k j ≡ true → HasPort K k j
+pub has-port : (K : RuleBook) (k j : ℕ) → has? K k j ≡ true → HasPort K k j
 has-port K k j t = fits-at j (K .arity k) t
 
-port-has : (K : RuleBook) (k j : ℕ) → HasPort K k j → has? K k j ≡ true
+pub port-has : (K : RuleBook) (k j : ℕ) → HasPort K k j → has? K k j ≡ true
 port-has K k j h = subst (λ o. fits? j o ≡ true) (sym (h .1)) (le-leb j (h .0) (h .2))
 
 module _ (K : RuleBook) where
@@ -258,11 +258,11 @@ wired-at (p ∷ ps) x y t =
     ]
 
 -- a new cell of the kind k
-abbrev kind? : ℕ → Option ℕ → Bool
+abbrev pub kind? : ℕ → Option ℕ → Bool
 kind? k None = false
 kind? k (Some l) = eqb l k
 
-kind-at : (k : ℕ) (o : Option ℕ) → kind? k o ≡ true → o ≡ Some k
+pub kind-at : (k : ℕ) (o : Option ℕ) → kind? k o ≡ true → o ≡ Some k
 kind-at k None t = absurd (both-ways false refl t)
 kind-at k (Some l) t = ap Some (eqb-true l k t)
 

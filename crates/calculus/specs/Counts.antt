@@ -20,14 +20,15 @@ abbrev pub arities : List ℕ
 arities = 0 ∷ 1 ∷ 2 ∷ []
 
 --               /-- R1
---      Z-------A          ==>   R1 ------- R2
+--      Z-------A           ==>   R1 ------- R2
 --               \-- R2
 abbrev pub ZA : Rule
 ZA = record { left = Z; right = A; cells = []; wires = (R 1, R 2) ∷ [] }
 
---               /-- R1          L1 --0 N2 1-- R1
--- L1 --S-------A          ==>          A  2--1 N1 0-- R2
---               \-- R2                         S
+--               /-- R1                   1-- R1
+-- L1 --S-------A           ==>   L1 --0 N2
+--               \-- R2                 A 2--1 N1 0-- R2
+--                                             S
 abbrev pub SA : Rule
 SA =
     record {

@@ -4,6 +4,11 @@ pub mod Nets
 pub mod Rewriting
 pub mod Reaching
 pub mod Alike
+pub mod Theorems
+pub mod Splicing
+pub mod Joining
 pub mod NewCells
 pub mod Combinators
 pub mod Counts
+pub mod Drawn
+pub mod Worked
