@@ -1,5 +1,6 @@
 // One case: a line, and what comes of it.
 use crate::hex;
+use alike::is_alike;
 use books::book::Book;
 use books::combinators::Combinators;
 use books::combinators::CombinatorsBook;
@@ -8,7 +9,6 @@ use books::counts::CountsBook;
 use netfile::reader::ReadFault;
 use netfile::reader::read;
 use netfile::writer::write;
-use nets::alike::alike;
 use nets::table::Table;
 use refusals::fault::Fault;
 use refusals::faults::FileFaultRefusal;
@@ -85,7 +85,15 @@ fn run_alike<B: Book>(
     let ours = read(rt.alloc(), book, &hex::bytes(rt.alloc(), first)?);
     let theirs = read(rt.alloc(), book, &hex::bytes(rt.alloc(), second)?);
     match (ours, theirs) {
-        (Ok(a), Ok(b)) => println!(rt, "{}", if alike(&a, &b) { "alike" } else { "different" })?,
+        (Ok(a), Ok(b)) => println!(
+            rt,
+            "{}",
+            if is_alike(&a, &b) {
+                "alike"
+            } else {
+                "different"
+            }
+        )?,
         (Err(fault), _) => print_fault(rt, fault)?,
         (_, Err(fault)) => print_fault(rt, fault)?,
     }

@@ -13,6 +13,10 @@ use Rattle.netfile.specs.Words.{header, loops-word, cell-word, link-word, word
 abbrev pub BadLength : List ℕ → Type 0
 BadLength bs = (length bs < 8) ⊎ (length bs % 4 ≢ 0)
 
+-- how many words there are
+abbrev pub size : List ℕ → ℕ
+size bs = length bs / 4
+
 -- word 0 is right: this book, e ends and c cells, not too many
 pub record Header (K : RuleBook) (bs : List ℕ) (e c : ℕ) : Type 0 where
   pub is : word bs 0 ≡ header (K .number) e c
@@ -28,52 +32,48 @@ pub data BadHeader (K : RuleBook) (bs : List ℕ) : ℕ → Type 0 where
   zeroth : ((e c : ℕ) → Header K bs e c → ⊥) → BadHeader K bs 0
   first : {e c : ℕ} → Header K bs e c → ((l : ℕ) → Loops bs l → ⊥) → BadHeader K bs 1
 
+-- word w is there, and is the cell word of a kind of arity a
+abbrev pub IsCell : RuleBook → List ℕ → ℕ → ℕ → Type 0
+IsCell K bs w a = (w < size bs) × ((k : ℕ) × (word bs w ≡ cell-word k) × (K .arity k ≡ Some a))
+
+-- an end that is there, or a port field other than 3 of a cell that is there
+abbrev pub Nameable : ℕ → ℕ → Spot → Type 0
+Nameable e c (end x) = x < e
+Nameable e c (port i j) = (i < c) × (j < 3)
+
+-- word w is there, and names y
+abbrev pub Names : List ℕ → ℕ → ℕ → ℕ → Spot → Type 0
+Names bs e c w y = (w < size bs) × (word bs w ≡ link-word y) × Nameable e c y
+
 module _ (K : RuleBook) (bs : List ℕ) (e c : ℕ) where
-  -- how many words there are
-  abbrev pub size : ℕ
-  size = length bs / 4
-
-  -- word w is there, and is the cell word of a kind of arity a
-  abbrev pub IsCell : ℕ → ℕ → Type 0
-  IsCell w a = (w < size) × ((k : ℕ) × (word bs w ≡ cell-word k) × (K .arity k ≡ Some a))
-
   -- the cell word of cell i is due at word w: that of cell 0 after the links of the ends, each other one after the links of the cell before it
   pub data CellDue : ℕ → ℕ → Type 0 where
     first : CellDue 0 (2 + e)
-    next : {i w a : ℕ} → CellDue i w → i < c → IsCell w a → CellDue (suc i) (w + (a + 2))
+    next : {i w a : ℕ} → CellDue i w → i < c → IsCell K bs w a → CellDue (suc i) (w + (a + 2))
 
   -- the link word of a spot is due at word w
   abbrev pub LinkDue : Spot → ℕ → Type 0
   LinkDue (end x) w = (x < e) × (w ≡ 2 + x)
-  LinkDue (port i j) w = (v : ℕ) × (a : ℕ) × CellDue i v × (i < c) × IsCell v a × (j ≤ a) × (w ≡ v + (j + 1))
-
-  -- an end that is there, or a port field other than 3 of a cell that is there
-  abbrev pub Nameable : Spot → Type 0
-  Nameable (end x) = x < e
-  Nameable (port i j) = (i < c) × (j < 3)
-
-  -- word w is there, and names y
-  abbrev pub Names : ℕ → Spot → Type 0
-  Names w y = (w < size) × (word bs w ≡ link-word y) × Nameable y
+  LinkDue (port i j) w = (v : ℕ) × (a : ℕ) × CellDue i v × (i < c) × IsCell K bs v a × (j ≤ a) × (w ≡ v + (j + 1))
 
   -- a cell word is due, and what stands there is none of this book's
   abbrev pub BadCell : ℕ → Type 0
-  BadCell w = (w < size) × ((i : ℕ) × (i < c) × CellDue i w) × ((a : ℕ) → IsCell w a → ⊥)
+  BadCell w = (w < size bs) × ((i : ℕ) × (i < c) × CellDue i w) × ((a : ℕ) → IsCell K bs w a → ⊥)
 
   -- a link word is due, and what stands there names nothing that is there
   abbrev pub BadLink : ℕ → Type 0
-  BadLink w = (w < size) × ((x : Spot) × LinkDue x w) × ((y : Spot) → Names w y → ⊥)
+  BadLink w = (w < size bs) × ((x : Spot) × LinkDue x w) × ((y : Spot) → Names bs e c w y → ⊥)
 
   -- a word is due where the file ends, or the file goes on after its last cell
   abbrev pub BadEnd : ℕ → Type 0
-  BadEnd w = ((w ≡ size) × (((i : ℕ) × (i < c) × CellDue i w) ⊎ ((x : Spot) × LinkDue x w))) ⊎ ((w < size) × CellDue c w)
+  BadEnd w = ((w ≡ size bs) × (((i : ℕ) × (i < c) × CellDue i w) ⊎ ((x : Spot) × LinkDue x w))) ⊎ ((w < size bs) × CellDue c w)
 
   abbrev pub BadWord : ℕ → Type 0
   BadWord w = BadCell w ⊎ (BadLink w ⊎ BadEnd w)
 
   -- the link at word w names its own spot, or one that is not there, or one that does not name it back
   abbrev pub NotMutual : ℕ → Type 0
-  NotMutual w = (x : Spot) × (y : Spot) × LinkDue x w × Names w y × ((y ≡ x) ⊎ ((v : ℕ) → LinkDue y v → Names v x → ⊥))
+  NotMutual w = (x : Spot) × (y : Spot) × LinkDue x w × Names bs e c w y × ((y ≡ x) ⊎ ((v : ℕ) → LinkDue y v → Names bs e c v x → ⊥))
 
 -- w is the first word of which P holds
 abbrev pub First : (ℕ → Type 0) → ℕ → Type 0

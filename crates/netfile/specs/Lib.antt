@@ -1,3 +1,12 @@
 pub mod Words
 pub mod Files
 pub mod Faults
+pub mod Decoding
+pub mod Reading
+pub mod Passes
+pub mod Converting
+pub mod Refusals
+pub mod Building
+pub mod Writing
+pub mod Laws
+pub mod RoundTrip

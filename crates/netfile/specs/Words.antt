@@ -29,9 +29,9 @@ word bytes i =
 -- the bytes of some words
 abbrev pub bytes-of : List ℕ → List ℕ
 bytes-of [] = []
-bytes-of (w ∷ ws) = w / 2 ^ 24 ∷ w / 2 ^ 16 % 256 ∷ w / 2 ^ 8 % 256 ∷ w % 256 ∷ bytes-of ws
+bytes-of (w ∷ ws) = w / 2 ^ 24 % 256 ∷ w / 2 ^ 16 % 256 ∷ w / 2 ^ 8 % 256 ∷ w % 256 ∷ bytes-of ws
 
 -- the lists f 0, f 1 and on to f (n - 1), one after the other
-abbrev pub each : ℕ → (ℕ → List ℕ) → List ℕ
+unfoldable pub each : ℕ → (ℕ → List ℕ) → List ℕ
 each zero f = []
 each (suc n) f = each n f ++ f n

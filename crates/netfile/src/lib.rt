@@ -1,8 +1,10 @@
-// Net files.
-ghost use mathlib.Core.Path.{_≡_};
-
-pub fn probe() -> u8
-    ensures { λ r. ⌜ r ≡ 0 ⌝ }
-{
-    0
-}
+// Net files: which bytes are a net, and what is wrong with all others.
+mod build;
+mod decode;
+pub mod head;
+pub mod laws;
+mod mutual;
+mod parts;
+pub mod reader;
+pub mod survey;
+pub mod writer;
