@@ -116,10 +116,10 @@ fn run_room(rt: &LibcRuntime, size: usize, text: &str) -> Result<(), AnyError> {
 
 // How many bytes still have the value that they had at first.
 fn kept(out: &Vec<u8>) -> usize {
-    let mut n = 0;
+    let mut n = 0usize;
     for b in out.iter() {
         if *b == 170 {
-            n += 1;
+            n = n.saturating_add(1);
         }
     }
     n

@@ -5,11 +5,11 @@ use std::alloc::Global;
 /// The bytes that a text names, two hexadecimal digits each; any other character is passed over.
 pub fn bytes(heap: Global, text: &str) -> Result<Vec<u8>, AllocError> {
     let mut out = Vec::new(heap);
-    let mut high = None;
+    let mut high: Option<u8> = None;
     for b in text.bytes() {
         high = match (high, digit(b)) {
             (Some(h), Some(d)) => {
-                out.push(h * 16 + d)?;
+                out.push(h.wrapping_mul(16).wrapping_add(d))?;
                 None
             }
             (None, Some(d)) => Some(d),
