@@ -1,0 +1,15 @@
+pub mod Counts
+pub mod Wirings
+pub mod Good
+pub mod Reducts
+pub mod Contracting
+pub mod Normalising
+pub mod Parts
+pub mod Relabels
+pub mod Reading
+pub mod Linearity
+pub mod Indexing
+pub mod Textbook
+pub mod Deciding
+pub mod Reducing
+pub mod Worked

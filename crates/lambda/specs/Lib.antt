@@ -1,0 +1,7 @@
+pub mod Terms
+pub mod Reduction
+pub mod TermNets
+pub mod Indices
+pub mod Reading
+pub mod Theorems
+pub mod Worked
