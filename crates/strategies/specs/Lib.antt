@@ -1,0 +1,4 @@
+pub mod Bags
+pub mod Orders
+pub mod Splits
+pub mod Choice
