@@ -1,25 +1,30 @@
 -- What a draft that is filled from a surveyed file holds.
 use mathlib.Core.Path.{_≡_, refl, sym, ap, subst, subst₂, _∙_}
-use mathlib.Core.Logic.{_⊎_, inl, inr, _≢_}
-use mathlib.Core.Bool.{Bool, true, false, _&&_}
+use mathlib.Core.Logic.{_⊎_, inl, inr}
+use mathlib.Core.Bool.{Bool, true, _&&_}
 use mathlib.Core.List.{List}
-use Prim.Native.Nat.{ℕ, _+_, _<_, _≤_}
+use Prim.Native.Nat.{ℕ, _+_, _<_}
 use native.Mathlib.Omega.{arith}
 use lib.Dec.{ltb, leb}
 use lib.ListN.{getD}
-use Rattle.std.specs.declared.option.Option.the-variants.{Some, None}
+use Rattle.std.specs.declared.option.Option.the-variants.{Some}
 use Rattle.std.proofs.shelf.Tests.{lt-ltb, le-leb, ltb-true, leb-true, and-from, and-parts, cases-eq}
 use Rattle.calculus.specs.Spots.{Spot, end, port}
 use Rattle.calculus.specs.Books.{RuleBook, Laws}
-use Rattle.nets.specs.Drafts.{Plan, planned, nameable, Begun, CellAdded, LinkNamed}
+use Rattle.nets.specs.declared.draft.Draft.{Draft}
+use Rattle.nets.specs.Drafts.{Plan, Attempt, planned, nameable, Begun, CellAdded, LinkNamed}
 use Rattle.netfile.specs.Words.{cell-word, word}
-use Rattle.netfile.specs.Faults.{size, IsCell, Nameable, Names, CellDue, LinkDue}
+use Rattle.netfile.specs.Faults.{IsCell, Nameable, Names, LinkDue}
 use Rattle.netfile.specs.Reading.{Sound}
 use Rattle.netfile.specs.Passes.{Laid}
 use Rattle.netfile.specs.Building.{Celled, NamedAt, Naming}
 use Rattle.netfile.specs.declared.survey.Survey.{Survey}
-use Rattle.netfile.proofs.Order.{cases-spot, earlier, same-word, link-there}
+use Rattle.netfile.proofs.Order.{cases-spot, earlier, same-word}
 use Rattle.netfile.proofs.Mutuals.{has-port, port-word}
+
+-- what a draft does where its test passes
+pub attempt-done : {test r : Bool} {d f : Draft} {Done : Type 0} → Attempt test d Done r f → test ≡ true → Done
+attempt-done attempt passes = attempt .done (attempt .answer ∙ passes)
 
 module _ (K : RuleBook) (bs : List ℕ) (s : Survey) (sound : Sound K bs s) where
   abbrev e : ℕ

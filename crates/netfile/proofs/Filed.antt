@@ -1,8 +1,8 @@
 -- Where the words of a net stand in bytes, and that nothing is wrong with the file of a net.
 use mathlib.Core.Path.{_≡_, refl, sym, ap, subst, subst₂, _∙_}
-use mathlib.Core.Logic.{_⊎_, inl, inr, _≢_}
+use mathlib.Core.Logic.{inl, inr}
 use mathlib.Core.List.{List, [], _∷_, _++_}
-use Prim.Native.Nat.{ℕ, zero, suc, _+_, _*_, _/_, _%_, _^_, _<_, _≤_}
+use Prim.Native.Nat.{ℕ, zero, suc, _+_, _<_, _≤_}
 use native.Mathlib.Omega.{arith}
 use native.Mathlib.Numerals.{add-one}
 use lib.ListN.{length, getD, length-append}
@@ -10,15 +10,15 @@ use Rattle.std.specs.declared.option.Option.{Option}
 use Rattle.std.specs.declared.option.Option.the-variants.{Some, None}
 use Rattle.std.proofs.shelf.Lists.{getD-append-left, getD-append-add}
 use Rattle.calculus.specs.Spots.{Spot, end, port, carry}
-use Rattle.calculus.specs.Books.{RuleBook, HasPort, Laws}
-use Rattle.calculus.specs.Nets.{Net, Stands, Good}
+use Rattle.calculus.specs.Books.{RuleBook, Laws}
+use Rattle.calculus.specs.Nets.{Net, Stands}
 use Rattle.nets.specs.Meaning.{cells-below}
-use Rattle.netfile.specs.Words.{header, loops-word, cell-word, link-word, word, bytes-of, each}
-use Rattle.netfile.specs.Files.{link-of, arity-in, words, file, Storable}
+use Rattle.netfile.specs.Words.{header, cell-word, link-word, word, each}
+use Rattle.netfile.specs.Files.{arity-in, words, file, Storable}
 use Rattle.netfile.specs.Faults.{BadLength, size, IsCell, Nameable, Names, CellDue, CellDue.first, CellDue.next, LinkDue}
 use Rattle.netfile.specs.Reading.{Mutual, Right}
 use Rattle.netfile.proofs.Words.{each-none, each-more, each-split, getD-each, length-each-one, getD-each-one, length-bytes-of, word-bytes-of}
-use Rattle.netfile.proofs.Ranks.{below-zero, below-some, below-none, below-le, below-lt, rank-injective, Placed, place, placed}
+use Rattle.netfile.proofs.Ranks.{below-zero, below-some, below-none, below-le, below-lt, rank-injective, place, placed}
 use Rattle.netfile.proofs.Stored.{piece, end-pieces, cell-pieces, piece-vacant, piece-is, mate-stands, words-below}
 use Rattle.netfile.proofs.Order.{same-start, same-arity}
 

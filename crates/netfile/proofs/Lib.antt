@@ -7,13 +7,14 @@ pub mod Verdicts
 pub mod Mutuals
 pub mod Single
 pub mod Filed
-pub mod Answer
 pub mod Refiled
+pub mod Drawn
+pub mod Answer
 pub mod Built
 pub mod Sealed
-pub mod Puts
 pub mod Links
-pub mod Unique
 pub mod Packing
+pub mod Puts
 pub mod Tables
+pub mod Unique
 pub mod RoundTrip

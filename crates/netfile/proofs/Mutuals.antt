@@ -1,11 +1,11 @@
 -- Links that are mutual or not, in a file whose words are all right.
-use mathlib.Core.Path.{_≡_, refl, sym, ap, subst, _∙_}
+use mathlib.Core.Path.{_≡_, refl, sym, subst}
 use mathlib.Core.Logic.{_⊎_, inl, inr, _≢_}
-use mathlib.Core.Bool.{Bool, true, false}
+use mathlib.Core.Bool.{Bool, false}
 use mathlib.Core.List.{List}
-use Prim.Native.Nat.{ℕ, suc, _+_, _-_, _<_, _≤_}
+use Prim.Native.Nat.{ℕ, _+_, _<_, _≤_}
 use native.Mathlib.Omega.{arith}
-use lib.ListN.{length, getD}
+use lib.ListN.{getD}
 use Rattle.std.specs.Orderings.{Decides}
 use Rattle.std.proofs.shelf.Tests.{false≢true}
 use Rattle.refusals.specs.declared.faults.FileFault.{FileFault}
@@ -13,7 +13,7 @@ use Rattle.refusals.specs.declared.faults.NetFault.{NetFault}
 use Rattle.calculus.specs.Spots.{Spot, end, port}
 use Rattle.calculus.specs.Books.{RuleBook, Laws}
 use Rattle.nets.specs.Drafts.{Before}
-use Rattle.netfile.specs.Faults.{size, IsCell, Names, CellDue, LinkDue, BadWord, NotMutual, First}
+use Rattle.netfile.specs.Faults.{size, IsCell, Names, CellDue, LinkDue, BadWord, NotMutual}
 use Rattle.netfile.specs.Reading.{Headed, Mutual, DueNet}
 use Rattle.netfile.specs.Passes.{NoCell, NoLink, NamedBefore, Laid, MutualAt, FaultAt}
 use Rattle.netfile.specs.declared.head.Head.{Head}

@@ -2,14 +2,13 @@
 use mathlib.Core.Path.{_≡_, refl, sym, ap, subst, _∙_}
 use mathlib.Core.Logic.{_⊎_, inl, inr, _≢_}
 use mathlib.Core.List.{List}
-use Prim.Native.Nat.{ℕ, suc, _+_, _*_, _^_, _<_, _≤_}
+use Prim.Native.Nat.{ℕ, _+_, _<_, _≤_}
 use native.Mathlib.Omega.{arith}
-use Rattle.std.specs.declared.option.Option.the-variants.{Some, None}
 use Rattle.std.proofs.shelf.Tests.{cases-order}
 use Rattle.calculus.specs.Spots.{Spot, end, port}
 use Rattle.calculus.specs.Books.{RuleBook}
 use Rattle.nets.specs.Drafts.{Before}
-use Rattle.netfile.specs.Words.{cell-word, link-word, word}
+use Rattle.netfile.specs.Words.{link-word, word}
 use Rattle.netfile.specs.Faults.{size, IsCell, Nameable, Names, CellDue, CellDue.first, CellDue.next, LinkDue}
 
 pub compare-spots : (x y : Spot) → (x ≡ y) ⊎ (Before x y ⊎ Before y x)
@@ -111,14 +110,6 @@ module _ (K : RuleBook) (bs : List ℕ) (e c : ℕ) where
   in-order (port i j) (port k l) p q (inr b) =
       let starts = same-start (subst (λ n. CellDue K bs e c n (p .0)) (b .0) (p .2)) (q .2) in
       omega (arith, p .6, q .6, b .1)
-
-  pub same-owner : {v w : ℕ} (x y : Spot) → LinkDue K bs e c x v → LinkDue K bs e c y w → v ≡ w → x ≡ y
-  same-owner x y p q s =
-      elim (compare-spots x y) [
-        | inl h ↦ h
-        | inr (inl h) ↦ absurd (omega (arith, in-order x y p q h))
-        | inr (inr h) ↦ absurd (omega (arith, in-order y x q p h))
-      ]
 
   -- a link word that stands before another one is that of an earlier spot
   pub before-from-word : {v w : ℕ} (x y : Spot) → LinkDue K bs e c x v → LinkDue K bs e c y w → v < w → Before x y

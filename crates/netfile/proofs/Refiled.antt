@@ -1,8 +1,8 @@
 -- A net that has the cells and links that right bytes name has these bytes for its file.
 use mathlib.Core.Path.{_≡_, refl, sym, ap, subst, subst₂, _∙_}
-use mathlib.Core.Logic.{_⊎_, inl, inr, _≢_}
-use mathlib.Core.List.{List, [], _∷_, _++_}
-use Prim.Native.Nat.{ℕ, zero, suc, _+_, _-_, _*_, _/_, _%_, _^_, _<_, _≤_}
+use mathlib.Core.Logic.{inl, inr}
+use mathlib.Core.List.{List, _∷_, _++_}
+use Prim.Native.Nat.{ℕ, zero, suc, _+_, _-_, _%_, _<_, _≤_, min}
 use native.Mathlib.Omega.{arith}
 use native.Mathlib.Numerals.{add-one}
 use lib.ListN.{length, getD, length-append}
@@ -11,16 +11,16 @@ use Rattle.std.specs.declared.option.Option.the-variants.{Some, None}
 use Rattle.std.proofs.shelf.Lists.{getD-append-left, getD-append-add}
 use Rattle.std.proofs.shelf.Tests.{cases-lt, cases-eq}
 use Rattle.calculus.specs.Spots.{Spot, end, port, carry}
-use Rattle.calculus.specs.Books.{RuleBook, HasPort, Laws}
+use Rattle.calculus.specs.Books.{RuleBook}
 use Rattle.calculus.specs.Nets.{Net, Stands, Good}
 use Rattle.nets.specs.Meaning.{cells-below}
-use Rattle.netfile.specs.Words.{header, loops-word, cell-word, link-word, word, bytes-of, each}
-use Rattle.netfile.specs.Files.{link-of, arity-in, words, file, Storable}
-use Rattle.netfile.specs.Faults.{size, IsCell, Names, CellDue, LinkDue}
+use Rattle.netfile.specs.Words.{header, cell-word, link-word, word, each}
+use Rattle.netfile.specs.Files.{link-of, arity-in, words, file, Storable, Packed}
+use Rattle.netfile.specs.Faults.{size, Names, CellDue, LinkDue}
 use Rattle.netfile.specs.Reading.{Right}
 use Rattle.netfile.proofs.Words.{Below, each-none, each-more, length-each-one, getD-each-one, bytes-of-words}
-use Rattle.netfile.proofs.Ranks.{below-lt}
-use Rattle.netfile.proofs.Stored.{piece, end-pieces, cell-pieces, piece-vacant, piece-is}
+use Rattle.netfile.proofs.Ranks.{below-zero, below-some, below-none, below-lt}
+use Rattle.netfile.proofs.Stored.{piece, end-pieces, cell-pieces, piece-vacant, piece-is, mate-stands}
 use Rattle.netfile.proofs.Order.{same-start, earlier}
 use Rattle.netfile.proofs.Filed.{start, spot-word, starts-due, spot-due}
 
@@ -118,3 +118,66 @@ module _ (K : RuleBook) (A : Net) (s : Storable K A) (bs : List ℕ) (bytes : Be
       let long = same-start K bs (A .ends) (cells-below A 1024) (starts 1024 (omega arith)) (right .whole) in
       let both = length-append (end-pieces A) (cell-pieces K A) in
       bytes-of-words all-words bs bytes (omega (arith, whole-words, ends-long)) word-here
+
+-- a net with just the cells and links that right bytes name, cell i in place i: it is storable and packed, and the bytes are its file
+module _ (K : RuleBook) (bs : List ℕ) (bytes : Below 256 bs) (e c l : ℕ) (right : Right K bs e c l) (A : Net) (good : Good K A) (ends : e ≡ A .ends) (loops : l ≡ A .loops)
+    (some : (r : ℕ) → r < c → (k : ℕ) × (A .kind r ≡ Some k) × ((v : ℕ) → CellDue K bs e c r v → word bs v ≡ cell-word k))
+    (none : (r : ℕ) → c ≤ r → A .kind r ≡ None)
+    (mates : (x : Spot) (w : ℕ) → LinkDue K bs e c x w → Names bs e c w (A .mate x)) where
+  kind-is : (r k : ℕ) → A .kind r ≡ Some k → (r < c) × ((v : ℕ) → CellDue K bs e c r v → word bs v ≡ cell-word k)
+  kind-is r k is =
+      elim (cases-lt r c) [
+        | inl less ↦
+            let (m, also, here) = some r less in
+            let same : m ≡ k = cc in
+            (less, subst (λ n. (v : ℕ) → CellDue K bs e c r v → word bs v ≡ cell-word n) same here)
+        | inr far ↦ let vacant = none r far in let z : _≡_ {A = ℕ} 0 1 = cc in absurd (omega arith)
+      ]
+
+  below-more : (n : ℕ) → cells-below A n ≡ min n c → cells-below A (n + 1) ≡ min (n + 1) c
+  below-more n before =
+      elim (cases-lt n c) [
+        | inl less ↦ let (k, is, _) = some n less in omega (arith, below-some A n k is)
+        | inr far ↦ omega (arith, below-none A n (none n far))
+      ]
+
+  below-is : (n : ℕ) → cells-below A n ≡ min n c
+  below-is zero = below-zero A ∙ omega arith
+  below-is (suc n) = subst (λ m. cells-below A m ≡ min m c) (add-one n) (below-more n (below-is n))
+
+  cells : c ≡ cells-below A 1024
+  cells = omega (arith, below-is 1024, right .headed .header .cells)
+
+  -- a cell's number in the file is its place
+  rank : (r : ℕ) → r < c → cells-below A r ≡ r
+  rank r less = omega (arith, below-is r)
+
+  carried : (x : Spot) → Stands K A x → carry (cells-below A) x ≡ x
+  carried (end x) there = refl
+  carried (port r j) (k, is, _) = ap (λ n. port n j) (rank r (kind-is r k is .0))
+
+  storable : Storable K A
+  storable = record {
+    good = good;
+    places = λ r k is. omega (arith, kind-is r k is .0, right .headed .header .cells);
+    ends = omega (arith, ends, right .headed .header .ends);
+    loops = omega (arith, loops, right .headed .loops .1);
+  }
+
+  right-net : Right K bs (A .ends) (cells-below A 1024) (A .loops)
+  right-net = subst (λ n. Right K bs (A .ends) (cells-below A 1024) n) loops (subst₂ (λ m n. Right K bs m n l) ends cells right)
+
+  cell-named : (r k v : ℕ) → A .kind r ≡ Some k → CellDue K bs (A .ends) (cells-below A 1024) (cells-below A r) v → word bs v ≡ cell-word k
+  cell-named r k v is due =
+      let (less, here) = kind-is r k is in
+      here v (subst (λ n. CellDue K bs e c n v) (rank r less) (subst₂ (λ m n. CellDue K bs m n (cells-below A r) v) (sym ends) (sym cells) due))
+
+  link-named : (x : Spot) (w : ℕ) → Stands K A x → LinkDue K bs (A .ends) (cells-below A 1024) (carry (cells-below A) x) w → Names bs (A .ends) (cells-below A 1024) w (carry (cells-below A) (A .mate x))
+  link-named x w there due =
+      let due′ = subst (λ y. LinkDue K bs e c y w) (carried x there) (subst₂ (λ m n. LinkDue K bs m n (carry (cells-below A) x) w) (sym ends) (sym cells) due) in
+      let target = sym (carried (A .mate x) (mate-stands K A good x there)) in
+      subst₂ (λ m n. Names bs m n w (carry (cells-below A) (A .mate x))) ends cells (subst (λ y. Names bs e c w y) target (mates x w due′))
+
+  pub packed-file : Storable K A × Packed A × (file K A ≡ bs)
+  packed-file =
+      (storable, (λ r k is. omega (arith, kind-is r k is .0, cells)), file-from K A storable bs bytes right-net cell-named link-named)

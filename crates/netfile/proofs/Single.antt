@@ -1,21 +1,19 @@
 -- At most one fault is due of some bytes, and none where nothing is wrong.
 use mathlib.Core.Path.{_≡_, refl, sym, ap, subst, subst₂, _∙_}
-use mathlib.Core.Logic.{_⊎_, inl, inr, _≢_}
+use mathlib.Core.Logic.{inl, inr}
 use mathlib.Core.List.{List}
-use Prim.Native.Nat.{ℕ, _+_, _<_, _≤_}
+use Prim.Native.Nat.{ℕ}
 use native.Mathlib.Omega.{arith}
 use Rattle.std.proofs.shelf.Tests.{cases-order}
 use Rattle.refusals.specs.declared.faults.FileFault.{FileFault}
 use Rattle.refusals.specs.declared.faults.NetFault.{NetFault}
-use Rattle.calculus.specs.Spots.{Spot, end, port}
 use Rattle.calculus.specs.Books.{RuleBook}
-use Rattle.netfile.specs.Faults.{BadLength, BadHeader, BadHeader.zeroth, BadHeader.first, Header, size, Names, LinkDue, BadCell, BadLink, BadEnd, BadWord, NotMutual, First}
-use Rattle.netfile.specs.Reading.{Headed, Mutual, Right, After, DueFile, DueNet, Due}
-use Rattle.netfile.specs.Passes.{NamedBefore}
+use Rattle.netfile.specs.Faults.{BadHeader, BadHeader.zeroth, BadHeader.first, Header, BadCell, BadLink, BadEnd, BadWord, NotMutual, First}
+use Rattle.netfile.specs.Reading.{Headed, Right, After, DueFile, DueNet, Due}
 use Rattle.netfile.specs.declared.head.Head.{Head}
 use Rattle.netfile.specs.declared.survey.SurveyFault.{SurveyFault}
 use Rattle.netfile.proofs.Words.{header-injective}
-use Rattle.netfile.proofs.Order.{same-start, same-owner, same-name, earlier, cell-or-link}
+use Rattle.netfile.proofs.Order.{earlier, cell-or-link}
 use Rattle.netfile.proofs.Mutuals.{no-bad-word, not-bad}
 
 module _ {P : ℕ → Type 0} where

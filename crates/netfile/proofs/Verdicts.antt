@@ -1,8 +1,8 @@
 -- Which fault is due, from how far the words of a file were found right.
-use mathlib.Core.Path.{_≡_, refl, sym, ap, subst, subst₂, _∙_}
-use mathlib.Core.Logic.{_⊎_, inl, inr, _≢_}
+use mathlib.Core.Path.{_≡_, sym, ap, subst, subst₂, _∙_}
+use mathlib.Core.Logic.{inl, inr}
 use mathlib.Core.List.{List}
-use Prim.Native.Nat.{ℕ, suc, _+_, _-_, _*_, _/_, _%_, _^_, _<_, _≤_}
+use Prim.Native.Nat.{ℕ, _+_, _-_, _*_, _%_, _<_, _≤_}
 use native.Mathlib.Omega.{arith}
 use native.Mathlib.Numerals.{add-one}
 use lib.ListN.{length, getD, set}
@@ -12,7 +12,7 @@ use Rattle.std.proofs.shelf.Tests.{cases-order, cases-lt, cases-eq}
 use Rattle.refusals.specs.declared.faults.FileFault.{FileFault}
 use Rattle.calculus.specs.Spots.{Spot, end, port}
 use Rattle.calculus.specs.Books.{RuleBook, Laws}
-use Rattle.netfile.specs.Faults.{BadLength, size, IsCell, Names, CellDue, CellDue.first, CellDue.next, LinkDue, BadCell, BadLink, BadEnd, BadWord, First}
+use Rattle.netfile.specs.Faults.{BadLength, size, CellDue, CellDue.first, CellDue.next, LinkDue, BadCell, BadLink, BadEnd, BadWord, First}
 use Rattle.netfile.specs.Reading.{Headed, DueFile}
 use Rattle.netfile.specs.Passes.{NoCell, NoLink, NameAll, StopsIn, CellChecked, NamedBefore, Laid}
 use Rattle.netfile.specs.declared.head.Head.{Head}

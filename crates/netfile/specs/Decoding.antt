@@ -1,6 +1,5 @@
 -- What single words of a file are decoded to: what private functions tell each other; no public contract cites it. Assumes nothing.
 use mathlib.Core.Path.{_≡_}
-use mathlib.Core.Logic.{_⊎_}
 use mathlib.Core.List.{List}
 use Prim.Native.Nat.{ℕ, _^_, _<_, _≤_}
 use Rattle.std.specs.declared.option.Option.{Option}

@@ -1,10 +1,10 @@
 -- What is wrong with bytes that are no net file of the book. Assumes nothing.
 use mathlib.Core.Path.{_≡_}
-use mathlib.Core.Logic.{_⊎_, inl, inr, _≢_}
+use mathlib.Core.Logic.{_⊎_, _≢_}
 use mathlib.Core.List.{List}
 use Prim.Native.Nat.{ℕ, suc, _+_, _/_, _%_, _^_, _<_, _≤_}
 use lib.ListN.{length}
-use Rattle.std.specs.declared.option.Option.the-variants.{Some, None}
+use Rattle.std.specs.declared.option.Option.the-variants.{Some}
 use Rattle.calculus.specs.Spots.{Spot, end, port}
 use Rattle.calculus.specs.Books.{RuleBook}
 use Rattle.netfile.specs.Words.{header, loops-word, cell-word, link-word, word}

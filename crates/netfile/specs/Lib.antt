@@ -4,7 +4,6 @@ pub mod Faults
 pub mod Decoding
 pub mod Reading
 pub mod Passes
-pub mod Converting
 pub mod Refusals
 pub mod Building
 pub mod Writing

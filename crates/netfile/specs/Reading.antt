@@ -65,11 +65,12 @@ module _ (K : RuleBook) (bs : List ℕ) where
   Surveyed (Ok s) = Sound s
   Surveyed (Err f) = Due f
 
-  -- at most one fault is due, none where nothing is wrong, and none where the bytes are the file of a net of the book
+  -- exactly one answer: at most one fault is due, none where nothing is wrong, and none where the bytes are the file of a net of the book; where nothing is wrong, they are that of one with its cells in places 0, 1, 2 and on
   pub record OneAnswer : Type 0 where
     pub one : (f g : SurveyFault) → Due f → Due g → f ≡ g
-    pub right : (f : SurveyFault) (e c l : ℕ) → Due f → Right K bs e c l → ⊥
-    pub file : (f : SurveyFault) (A : Net) → Due f → Storable K A → file K A ≡ bs → ⊥
+    pub clear : (f : SurveyFault) (e c l : ℕ) → Due f → Right K bs e c l → ⊥
+    pub unfiled : (f : SurveyFault) (A : Net) → Due f → Storable K A → file K A ≡ bs → ⊥
+    pub filed : (e c l : ℕ) → Right K bs e c l → (A : Net) × Storable K A × Packed A × (file K A ≡ bs)
 
   -- a table that is read: the bytes are the file of its net, a net of the book with its cells in places 0, 1, 2 and on
   pub record ReadAs (t : Table) : Type 0 where
@@ -84,3 +85,8 @@ module _ (K : RuleBook) (bs : List ℕ) where
   Answered (Err (ReadFault.File f)) = Due (SurveyFault.File f)
   Answered (Err (ReadFault.Net f)) = Due (SurveyFault.Net f)
   Answered (Err ReadFault.Memory) = Unit {0}
+
+-- a survey's fault as one of the reader
+abbrev pub read-fault : SurveyFault → ReadFault
+read-fault (SurveyFault.File f) = ReadFault.File f
+read-fault (SurveyFault.Net f) = ReadFault.Net f

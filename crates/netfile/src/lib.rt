@@ -1,4 +1,4 @@
-// Net files: which bytes are a net, and what is wrong with all others.
+// Net files: which bytes are a net, what is wrong with all others, and how a net is written.
 mod build;
 mod decode;
 pub mod head;

@@ -1,10 +1,8 @@
 // The reader of net files.
 ghost use mathlib.Core.Path.{_≡_};
-ghost use Rattle.std.specs.declared.option.Option.the-variants.{Some, None};
-ghost use Rattle.netfile.specs.Reading.{Answered, OneAnswer};
+ghost use Rattle.netfile.specs.Reading.{Answered, OneAnswer, read-fault};
 ghost use Rattle.netfile.specs.Refusals.{read-refusal};
 ghost use Rattle.netfile.specs.declared.reader.ReadFault.the-variants.{Memory};
-ghost use Rattle.netfile.specs.Converting.{read-fault};
 use crate::build::add_cells;
 use crate::build::name_links;
 use crate::survey::SurveyFault;
@@ -41,7 +39,7 @@ impl ReadFault {
     }
 }
 
-pub impl From<SurveyFault> for ReadFault as ReadFromSurvey {
+impl From<SurveyFault> for ReadFault as ReadFromSurvey {
     ghost converts = { λ e r. r ≡ read-fault e };
 
     fn from(e: SurveyFault) -> ReadFault {
@@ -52,7 +50,7 @@ pub impl From<SurveyFault> for ReadFault as ReadFromSurvey {
     }
 }
 
-pub impl From<AllocError> for ReadFault as ReadFromAlloc {
+impl From<AllocError> for ReadFault as ReadFromAlloc {
     ghost converts = { λ _ r. r ≡ Memory };
 
     fn from(_e: AllocError) -> ReadFault {

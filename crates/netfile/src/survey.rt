@@ -33,7 +33,7 @@ pub enum SurveyFault {
     Net(NetFault),
 }
 
-pub impl From<FileFault> for SurveyFault as SurveyFromFile {
+impl From<FileFault> for SurveyFault as SurveyFromFile {
     ghost converts = { λ e r. r ≡ File e };
 
     fn from(e: FileFault) -> SurveyFault {
@@ -41,7 +41,7 @@ pub impl From<FileFault> for SurveyFault as SurveyFromFile {
     }
 }
 
-pub impl From<NetFault> for SurveyFault as SurveyFromNet {
+impl From<NetFault> for SurveyFault as SurveyFromNet {
     ghost converts = { λ e r. r ≡ Net e };
 
     fn from(e: NetFault) -> SurveyFault {

@@ -1,6 +1,5 @@
-use mathlib.Core.Path.{_∙_}
 use Rattle.netfile.proofs.Mutuals.{no-cell}
-use Rattle.netfile.proofs.Built.{cell-known, cell-room, celled-more}
+use Rattle.netfile.proofs.Built.{attempt-done, cell-known, cell-room, celled-more}
 use Rattle.netfile.proofs.build.add_cell.Needs as need
 
 -- a surveyed cell is there
@@ -18,4 +17,4 @@ returns g c =
     let is = c .in-Ok .ensures tt in
     let cell = c .in-Ok .cell in
     let test = cell-room K bs s (c .pre .sound) (g .B·Book·met .lawful (c .args .book .now)) (c .args .i) (cell .kind) (cell .arity) _ (c .pre .next) (c .pre .before) (is .2) in
-    celled-more K bs s (c .pre .sound) (c .args .i) (cell .kind) (cell .arity) _ _ (c .pre .before) (c .add-cell .ensures .done (c .add-cell .ensures .answer ∙ test)) (is .1) (is .2)
+    celled-more K bs s (c .pre .sound) (c .args .i) (cell .kind) (cell .arity) _ _ (c .pre .before) (attempt-done (c .add-cell .ensures) test) (is .1) (is .2)

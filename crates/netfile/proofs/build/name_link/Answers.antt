@@ -1,8 +1,7 @@
-use mathlib.Core.Path.{_∙_}
 use Rattle.std.proofs.shelf.Tests.{and-from}
 use Rattle.nets.specs.Views.{at}
 use Rattle.netfile.proofs.Mutuals.{no-link}
-use Rattle.netfile.proofs.Built.{laid, due-planned, link-room, naming-none, naming-one}
+use Rattle.netfile.proofs.Built.{attempt-done, laid, due-planned, link-room, naming-none, naming-one}
 use Rattle.netfile.proofs.build.name_link.Needs as need
 
 pub word-of-requires : need.word-of-requires
@@ -30,4 +29,4 @@ returns g c =
     let there = due-planned K bs s (c .pre .sound) _ (c .pre .before) x _ due in
     let room = link-room K bs s (c .pre .sound) (at (c .in-Ok .target)) (names .2) in
     naming-one K bs s (c .pre .sound) _ (c .pre .before) x (at (c .in-Ok .target)) (c .in-Some .word) _
-    (c .name-link .ensures .done (c .name-link .ensures .answer ∙ and-from _ _ there room)) due names
+    (attempt-done (c .name-link .ensures) (and-from _ _ there room)) due names

@@ -3,7 +3,7 @@ use mathlib.Core.Path.{_≡_, refl, ap, subst, _∙_}
 use Prim.Native.Nat.{ℕ, _<_}
 use native.Mathlib.Omega.{arith}
 use Rattle.std.proofs.shelf.Tests.{cases-eq, cases-lt}
-use Rattle.calculus.specs.Spots.{Spot, end, port}
+use Rattle.calculus.specs.Spots.{end, port}
 use Rattle.netfile.specs.Building.{PortOf}
 use Rattle.netfile.proofs.Built.{naming-wider, naming-then}
 use Rattle.netfile.proofs.build.name_links.Needs as need

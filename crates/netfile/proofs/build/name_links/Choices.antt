@@ -1,7 +1,6 @@
-use mathlib.Core.Logic.{_⊎_}
 use mathlib.Core.Path.{_≡_}
 use Prim.Native.Nat.{ℕ, _<_}
-use Rattle.calculus.specs.Spots.{end, port}
+use Rattle.calculus.specs.Spots.{end}
 use Rattle.nets.specs.Drafts.{plan}
 use Rattle.netfile.specs.Building.{Naming, PortOf}
 use Rattle.netfile.proofs.build.name_links.Given as given

@@ -1,5 +1,5 @@
 use native.Mathlib.Omega.{arith}
-use mathlib.Core.Path.{_≡_, refl}
+use mathlib.Core.Path.{refl}
 use Rattle.netfile.proofs.Order.{same-arity}
 use Rattle.netfile.proofs.Mutuals.{no-cell, port-word, has-port}
 use Rattle.netfile.proofs.mutual.word_of.Needs as need

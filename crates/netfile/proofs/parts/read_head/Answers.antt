@@ -1,7 +1,6 @@
 use mathlib.Core.Path.{_≡_}
-use Rattle.calculus.specs.Books.{RuleBook}
 use Rattle.netfile.specs.Words.{header, loops-word}
-use Rattle.netfile.specs.Faults.{BadHeader, BadHeader.zeroth, BadHeader.first, Header}
+use Rattle.netfile.specs.Faults.{BadHeader.zeroth, BadHeader.first}
 use Rattle.netfile.proofs.Verdicts.{right-length}
 use Rattle.netfile.proofs.parts.read_head.Needs as need
 

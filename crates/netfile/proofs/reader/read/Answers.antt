@@ -40,6 +40,6 @@ returns g c =
     let survey = c .in-Continue-survey .ensures tt in
     record {
       answer = read-as (g .B·Book .meaning (c .args .book .now)) (c .args .bytes .now) (c .in-Continue-survey .survey) (survey .answer) _
-          (c .name-links .ensures .celled) (λ x. c .name-links .ensures .named x tt) (g .B·Book·met .lawful (c .args .book .now)) (λ i. omega (arith, c .typed .bytes i)) (c .in-Ok .table) (c .in-Ok .ensures tt .0);
+          (c .name-links .ensures .celled) (λ x. c .name-links .ensures .named x tt) (λ i. omega (arith, c .typed .bytes i)) (c .in-Ok .table) (c .in-Ok .ensures tt .0);
       one = survey .one;
     }

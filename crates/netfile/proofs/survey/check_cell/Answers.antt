@@ -1,4 +1,4 @@
-use mathlib.Core.Logic.{inl, inr}
+use mathlib.Core.Logic.{inr}
 use Rattle.std.proofs.shelf.Results.{err-from-errBy}
 use Rattle.netfile.proofs.survey.check_cell.Needs as need
 

@@ -1,6 +1,6 @@
 use mathlib.Core.Logic.{inl, inr}
 use mathlib.Core.Path.{subst, sym}
-use Prim.Native.Nat.{ℕ, _<_}
+use Prim.Native.Nat.{ℕ}
 use native.Mathlib.Omega.{arith}
 use Rattle.std.proofs.shelf.Tests.{cases-eq}
 use Rattle.calculus.specs.Spots.{Spot}
