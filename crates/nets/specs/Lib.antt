@@ -3,3 +3,8 @@ pub mod Meaning
 pub mod Views
 pub mod Drafts
 pub mod Inner
+pub mod Fitting
+pub mod Rewrites
+pub mod Noting
+pub mod Rewiring
+pub mod Seating
