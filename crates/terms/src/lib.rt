@@ -1,0 +1,8 @@
+// Terms as text: which bytes are a linear term, and what is wrong with all others.
+pub mod grammar;
+pub mod item;
+pub mod items;
+mod letters;
+pub mod listing;
+pub mod scanner;
+mod scanning;
