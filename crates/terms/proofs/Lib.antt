@@ -1,7 +1,12 @@
 pub mod Words
 pub mod Listings
+pub mod Lookups
+pub mod Wrongs
+pub mod Tallies
+pub mod Walks
 pub mod Stacks
 pub mod Steps
 pub mod Machine
 pub mod Exact
 pub mod Single
+pub mod Outcomes

@@ -61,7 +61,7 @@ small-sign b h =
     let l = leb-true 97 b (p .0) in
     (ne-eqb b 92 (λ e. omega arith), ne-eqb b 40 (λ e. omega arith))
 
-capital-sign : (b : ℕ) → letter capital b ≡ true → (eqb b 92 ≡ false) × (eqb b 40 ≡ false) × (letter small b ≡ false)
+pub capital-sign : (b : ℕ) → letter capital b ≡ true → (eqb b 92 ≡ false) × (eqb b 40 ≡ false) × (letter small b ≡ false)
 capital-sign b h =
     let p = and-parts (leb 65 b) (leb b 90) h in
     let l = leb-true 65 b (p .0) in

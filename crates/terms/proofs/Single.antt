@@ -15,7 +15,7 @@ use Rattle.terms.specs.Bindings.{Meaning, variable, listed, nothing, Around, u
 use Rattle.terms.specs.Texts.{most-bytes, First, IsLarge, IsMisused, Reads, OfTerm, Due, OneAnswer}
 use Rattle.terms.proofs.Exact.{one-term}
 
-has-append : {X : Type 0} (xs ys : List X) (x : X) → Has (xs ++ ys) x → Has xs x ⊎ Has ys x
+pub has-append : {X : Type 0} (xs ys : List X) (x : X) → Has (xs ++ ys) x → Has xs x ⊎ Has ys x
 has-append xs ys x h =
     let n = length-append xs ys in
     elim (cases-lt (h .0) (length xs)) [
@@ -23,7 +23,7 @@ has-append xs ys x h =
       | inr m ↦ inr (h .0 - length xs, omega (arith, h .1), λ d. sym (getD-append-right xs ys (length xs) (h .0) d refl m) ∙ h .2 d)
     ]
 
-has-one : {X : Type 0} (y x : X) → Has (y ∷ []) x → y ≡ x
+pub has-one : {X : Type 0} (y x : X) → Has (y ∷ []) x → y ≡ x
 has-one y x h = go (h .0) (h .1) (h .2 y)
   where
     go : (k : ℕ) → k < 1 → getD (y ∷ []) k y ≡ x → y ≡ x

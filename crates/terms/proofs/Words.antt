@@ -7,10 +7,10 @@ use Prim.Native.Nat.{ℕ, zero, suc, _+_, _<_, _≤_, min}
 use native.Mathlib.Omega.{arith}
 use native.Mathlib.Nat.{zero-add}
 use lib.Dec.{leb}
-use lib.ListN.{length, getD, take}
-use Rattle.std.proofs.shelf.Lists.{length-take, length-append, getD-take, getD-append-left, append-nil, take-all}
-use Rattle.std.proofs.shelf.Tests.{both-ways, cases-eq, and-from, le-leb}
-use Rattle.terms.specs.Letters.{letter, Word, Outside, Run}
+use lib.ListN.{length, getD, take, drop}
+use Rattle.std.proofs.shelf.Lists.{length-take, length-append, getD-take, getD-append-left, append-nil, take-all, getD-drop}
+use Rattle.std.proofs.shelf.Tests.{both-ways, cases-order, and-from, le-leb}
+use Rattle.terms.specs.Letters.{letter, Word, Outside, Run, WordAt}
 
 -- the first letter is a letter
 pub first-letter : (first : ℕ) → letter first first ≡ true
@@ -80,3 +80,14 @@ outside-word first w n r h = record {
 pub whole-word : (first : ℕ) (w : List ℕ) (n : ℕ) → Run w 0 first n → 1 ≤ n → length w ≤ n → Word first w
 whole-word first w n r some all =
     subst (Word first) (take-all n w all) (front-word first w n some (r .few) (omega (arith, r .inside)) (λ k l. rw zero-add at (r .letters k l)))
+
+-- the run of letters at a word is that word
+pub run-word : (text : List ℕ) (p first n : ℕ) (w : List ℕ) → Run text p first n → WordAt text p first w → n ≡ length w
+run-word text p first n w r h =
+    elim (cases-order n (length w)) [
+      | inl e ↦ e
+      | inr (inl l) ↦
+          let e : getD w n 0 ≡ getD text (p + n) 0 = sym (ap (λ (x : List ℕ). getD x n 0) (h .here)) ∙ getD-take (length w) (drop p text) n 0 l ∙ getD-drop p text n 0 in
+          absurd (both-ways _ (r .ends (omega (arith, h .word .few)) (omega (arith, h .inside))) (subst (λ b. letter first b ≡ true) e (h .word .letters n l)))
+      | inr (inr l) ↦ absurd (both-ways _ (h .ends (omega (arith, r .inside))) (r .letters (length w) l))
+    ]

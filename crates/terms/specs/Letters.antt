@@ -4,7 +4,7 @@ use mathlib.Core.Bool.{Bool, true, false, _&&_}
 use mathlib.Core.List.{List, _++_}
 use Prim.Native.Nat.{ℕ, _+_, _<_, _≤_}
 use lib.Dec.{leb}
-use lib.ListN.{length, getD, take}
+use lib.ListN.{length, getD, take, drop}
 
 -- one of the 26 letters from the first one on
 abbrev pub letter : ℕ → ℕ → Bool
@@ -37,3 +37,10 @@ pub record Run (text : List ℕ) (p first n : ℕ) : Type 0 where
   pub inside : p + n ≤ length text
   pub letters : (k : ℕ) → k < n → letter first (getD text (p + k) 0) ≡ true
   pub ends : n < 8 → p + n < length text → letter first (getD text (p + n) 0) ≡ false
+
+-- the word w stands at place p of the text, and the letters end there
+pub record WordAt (text : List ℕ) (p first : ℕ) (w : List ℕ) : Type 0 where
+  pub word : Word first w
+  pub inside : p + length w ≤ length text
+  pub here : take (length w) (drop p text) ≡ w
+  pub ends : p + length w < length text → letter first (getD text (p + length w) 0) ≡ false

@@ -5,3 +5,7 @@ pub mod Named
 pub mod Bindings
 pub mod Texts
 pub mod Scanning
+pub mod Looking
+pub mod Tallying
+pub mod Walking
+pub mod Unused

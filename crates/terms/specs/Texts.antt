@@ -7,6 +7,7 @@ use lib.ListN.{length}
 use Rattle.std.specs.declared.result.Result.{Result}
 use Rattle.std.specs.declared.result.Result.the-variants.{Ok, Err}
 use Rattle.refusals.specs.declared.faults.TextFault.{TextFault}
+use Rattle.terms.specs.declared.size.Size.{Size}
 use Rattle.terms.specs.Letters.{Outside}
 use Rattle.terms.specs.Named.{Named, written, Spelt, Grammatical, cells, items}
 use Rattle.terms.specs.Bindings.{IsUnbound, IsUsedAgain, IsUnused, LinearNamed}
@@ -65,3 +66,8 @@ module _ (text : List ℕ) where
   abbrev pub Checked : Result (Unit {0}) TextFault → Type 0
   Checked (Ok _) = (length text ≤ most-bytes) × Grammatical text
   Checked (Err f) = Due f
+
+  -- what a survey answers: the size of the linear term that the text is, within the limits, or the fault that is due
+  abbrev pub Surveyed : Result Size TextFault → Type 0
+  Surveyed (Ok s) = (t : Named) × Reads text t × (s .cells ≡ cells t) × (s .items ≡ length (items t))
+  Surveyed (Err f) = Due f

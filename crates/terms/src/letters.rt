@@ -1,8 +1,9 @@
 // Runs of letters.
 ghost use mathlib.Core.Path.{_≡_};
-ghost use Prim.Native.Nat.{_≤_};
+ghost use mathlib.Core.List.{List};
+ghost use Prim.Native.Nat.{ℕ, _≤_};
 ghost use lib.ListN.{length};
-ghost use Rattle.terms.specs.Letters.{letter, Run};
+ghost use Rattle.terms.specs.Letters.{letter, Run, WordAt};
 
 /// How many letters, from one letter on through the 25 after it, stand at a place of the text; more than eight count as eight.
 pub(crate) fn run_of(text: &[u8], at: usize, first: u8) -> usize
@@ -24,4 +25,14 @@ pub(crate) fn is_letter(byte: u8, first: u8) -> bool
     ensures { λ r. ⌜ r ≡ letter first byte ⌝ }
 {
     first <= byte && byte <= first + 25
+}
+
+/// The word that stands at a place of the text.
+pub(crate) fn word_at(text: &[u8], at: usize, first: u8) -> &[u8]
+    requires inside { ⌜ at ≤ length (now text) ⌝ }
+    requires letter { ⌜ first ≤ 97 ⌝ }
+    ensures { λ r. ⌜ ((w : List ℕ) → WordAt (now (text .entry)) at first w → now r ≡ w) ⌝ }
+{
+    let len = run_of(text, at, first);
+    &text[at..at + len]
 }
