@@ -1,5 +1,7 @@
 // Whether two nets are alike: the rows of the one are paired with the rows of the other, piece by piece.
 // A net has 1,094 rows: 0 to 1,023 for the places of its cells, 1,030 + e for end e, and 6 between that stay empty.
+#![tactic(auto)]
+
 ghost use Rattle.std.specs.Prelude.{◌≡◌, ◌*◌, ◌<◌, ◌≤◌, true, ◌≢◌};
 ghost use Rattle.calculus.specs.Alike.{Alike};
 ghost use Rattle.pairing.specs.Rows.{row_of, port_number};

@@ -1,4 +1,6 @@
 // The theory of names: the term without names that a linear term with names stands for. It has no code but functions whose contracts are its theorems.
+#![tactic(auto)]
+
 ghost use Rattle.binding.specs.Theorems.{LinearTerms, OwnItems, TextPlaces};
 
 // A linear term with names, under a list of its items, stands for a linear term without names.

@@ -1,4 +1,6 @@
 // Rule books: a rule as the code holds it, the trait that every book meets, and the two books.
+#![tactic(auto)]
+
 pub mod book;
 pub mod combinators;
 pub mod counts;

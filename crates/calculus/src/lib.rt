@@ -1,4 +1,6 @@
 // The theory of interaction nets whose closed loops are counted. It has no code but functions whose contracts are its theorems.
+#![tactic(auto)]
+
 ghost use Rattle.calculus.specs.Joining.{TieGood, TieAlike, TieRewriting, JoinGood, JoinAlike, JoinFirst, JoinSecond};
 ghost use Rattle.calculus.specs.Splicing.{SplicesCommute};
 ghost use Rattle.calculus.specs.Theorems.{Rewritable, StaysGood, OneCount, OneResult, AlikeEquivalence, ActiveAlike, RestAlike, RewritingAlike, PairsApart, OthersStay, EitherOrder, Confluent, RestFinal};

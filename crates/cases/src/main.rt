@@ -2,6 +2,8 @@
 //   NAME read BOOK HEX            reads the file, and writes back what was read
 //   NAME alike BOOK HEX / HEX     reads two files, and says whether their nets are alike
 //   NAME room N HEX               reads the file in book 0, and writes it to a buffer of N bytes
+#![tactic(auto)]
+
 mod case;
 mod hex;
 

@@ -1,4 +1,6 @@
 // Compiling the text of a linear term to the table of its net.
+#![tactic(auto)]
+
 mod builder;
 mod building;
 pub mod compiler;

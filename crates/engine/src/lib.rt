@@ -1,4 +1,6 @@
 // The states of a net, and what may be done with each: sealed, run, normal; slips.
+#![tactic(auto)]
+
 pub mod account;
 mod closing;
 mod compiling;

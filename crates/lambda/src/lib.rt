@@ -1,4 +1,6 @@
 // The theory of linear terms and their nets. It has no code but functions whose contracts are its theorems.
+#![tactic(auto)]
+
 ghost use Rattle.lambda.specs.Theorems.{TermNetsGood, PairsAreRedexes, RewritingContracts, NetsStayTerms, ReductionsEnd, NetsReduceTerms, OneTerm, TextOrder, EveryReadingBack, TextbookBeta};
 ghost use Rattle.lambda.specs.Worked.{WorkedExamples};
 

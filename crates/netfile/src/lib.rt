@@ -1,4 +1,6 @@
 // Net files: which bytes are a net, what is wrong with all others, and how a net is written.
+#![tactic(auto)]
+
 mod build;
 mod decode;
 pub mod head;

@@ -1,4 +1,6 @@
 // Nets as tables.
+#![tactic(auto)]
+
 pub mod draft;
 pub mod drafting;
 pub mod fault;

@@ -1,4 +1,6 @@
 // The theory of pairing the rows of two nets, one with one. It has no code but functions whose contracts are its theorems.
+#![tactic(auto)]
+
 ghost use Rattle.pairing.specs.Pieces.{Exchange};
 ghost use Rattle.pairing.specs.Rows.{AlikeByRows};
 

@@ -1,4 +1,6 @@
 // The active pairs of a table: the one at a place, and those that a rewrite makes.
+#![tactic(auto)]
+
 pub mod active;
 pub mod formed;
 mod gather;

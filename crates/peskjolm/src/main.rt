@@ -1,4 +1,6 @@
 // peskjolm: a workbench for net files.
+#![tactic(auto)]
+
 mod show;
 
 use anyhow::anyhow;

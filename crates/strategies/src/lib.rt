@@ -1,4 +1,6 @@
 // Strategies: which waiting pair comes next.
+#![tactic(auto)]
+
 mod arrivals;
 pub mod choice;
 pub mod pair;

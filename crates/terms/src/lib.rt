@@ -1,4 +1,6 @@
 // Terms as text: which bytes are a linear term, and what is wrong with all others.
+#![tactic(auto)]
+
 pub mod grammar;
 pub mod item;
 pub mod items;

@@ -1,24 +1,24 @@
 use Rattle.books.proofs.Lookups.{item-nth, got_none, got_some, no_row, no_column, at_position}
 use Rattle.books.proofs.shelf.look.Goals as goal
 
-pub returns-in-err-row : goal.returns-in-err-row
-returns-in-err-row g c =
-    let p = got_none c.args.positions.now c.args.a c.get.result c.get.ensures.finds c.in-err-row.was in
+pub returns-in_err-row : goal.returns-in_err-row
+returns-in_err-row g c =
+    let p = got_none c.args.positions.now c.args.a c.get.result c.get.ensures.finds c.in_err-row.was in
     no_row c.args.rules.now c.args.positions.now c.args.a c.args.b c.from-residual.result p c.from-residual.ensures
 
-pub returns-in-err-position : goal.returns-in-err-position
-returns-in-err-position g c =
-    let row = c.in-ok-row.row in
-    let p = got_some c.args.positions.now c.args.a c.get.result row c.get.ensures.finds c.in-ok-row.was in
-    let q = got_none row.now c.args.b c.get-2.result c.get-2.ensures.finds c.in-err-position.was in
-    let r = c.from-residual-in-err-position in
+pub returns-in_err-position : goal.returns-in_err-position
+returns-in_err-position g c =
+    let row = c.in_ok-row.row in
+    let p = got_some c.args.positions.now c.args.a c.get.result row c.get.ensures.finds c.in_ok-row.was in
+    let q = got_none row.now c.args.b c.get-2.result c.get-2.ensures.finds c.in_err-position.was in
+    let r = c.from-residual-in_err-position in
     no_column c.args.rules.now c.args.positions.now c.args.a c.args.b r.result row.now p q r.ensures
 
 pub returns : goal.returns
 returns g c =
-    let row = c.in-ok-row.row in
-    let position = c.in-ok-position.position in
-    let p = got_some c.args.positions.now c.args.a c.get.result row c.get.ensures.finds c.in-ok-row.was in
-    let q = got_some row.now c.args.b c.get-2.result position c.get-2.ensures.finds c.in-ok-position.was in
+    let row = c.in_ok-row.row in
+    let position = c.in_ok-position.position in
+    let p = got_some c.args.positions.now c.args.a c.get.result row c.get.ensures.lookup c.in_ok-row.was in
+    let q = got_some row.now c.args.b c.get-2.result position c.get-2.ensures.finds c.in_ok-position.was in
     let r = item-nth c.args.rules.now position.now c.get-3.result c.get-3.ensures.finds in
     at_position c.args.rules.now c.args.positions.now c.args.a c.args.b c.get-3.result row.now position.now p q r

@@ -8,9 +8,9 @@ use Rattle.compile.proofs.compiler.compile.Goals as goal
 
 pub walk-requires : goal.walk-requires
 walk-requires c =
-    let (T, reads, cells, items) = c.in-ok-size.ensures.answer in
-    builds_none c.args.text.now T reads c.in-ok-draft.draft c.in-ok-new.field-0 c.new-builder.result
-    (subst (λ n. Begun (n + 1) 0 (plan c.in-ok-draft.draft)) items c.in-ok-draft.ensures) c.in-ok-new.ensures c.new-builder.ensures
+    let (T, reads, cells, items) = c.in_ok-size.ensures.answer in
+    builds_none c.args.text.now T reads c.in_ok-draft.draft c.in_ok-new.field-0 c.new-builder.result
+    (subst (λ n. Begun (n + 1) 0 (plan c.in_ok-draft.draft)) items c.in_ok-draft.ensures) c.in_ok-new.ensures c.new-builder.ensures
 
 -- all links of the term are named, and all are mutual
 pub unreachable-requires : goal.unreachable-requires
@@ -30,5 +30,5 @@ returns c =
         net = net_is c.args.text.now T reads _ drafted c.in-Ok.table sealed;
         book = of_book c.args.text.now T reads _ drafted c.in-Ok.table sealed;
       };
-      one = c.in-ok-size.ensures.one;
+      one = c.in_ok-size.ensures.one;
     }

@@ -6,40 +6,40 @@ use Rattle.netfile.proofs.Built.{begun_none}
 use Rattle.netfile.proofs.Sealed.{no_fault, read_as}
 use Rattle.netfile.proofs.reader.read.Goals as goal
 
-pub returns-in-err-survey : goal.returns-in-err-survey
-returns-in-err-survey g c =
+pub returns-in_err-survey : goal.returns-in_err-survey
+returns-in_err-survey g c =
     let p = err_from_is_err_and c.from-residual.result c.from-residual.ensures.1 in
-    let survey = c.in-err-survey.ensures in
+    let survey = c.in_err-survey.ensures in
     record {
-      answer = rw (p.1, p.2) (answered (g.B.Book.meaning c.args.book.now) c.args.bytes.now c.in-err-survey.field-0.0 survey.answer);
+      answer = rw (p.1, p.2) (answered (g.B.Book.meaning c.args.book.now) c.args.bytes.now c.in_err-survey.field-0.0 survey.answer);
       one = survey.one;
     }
 
-pub returns-in-err-draft : goal.returns-in-err-draft
-returns-in-err-draft g c =
-    let p = err_from_is_err_and c.from-residual-in-err-draft.result c.from-residual-in-err-draft.ensures.1 in
-    record { answer = rw (p.1, p.2) tt; one = c.in-ok-survey.ensures.one }
+pub returns-in_err-draft : goal.returns-in_err-draft
+returns-in_err-draft g c =
+    let p = err_from_is_err_and c.from-residual-in_err-draft.result c.from-residual-in_err-draft.ensures.1 in
+    record { answer = rw (p.1, p.2) tt; one = c.in_ok-survey.ensures.one }
 
 pub add-cells-requires : goal.add-cells-requires
 add-cells-requires g c = record {
-  sound = c.in-ok-survey.ensures.answer;
-  before = begun_none (g.B.Book.meaning c.args.book.now) c.args.bytes.now c.in-ok-survey.survey _ c.in-ok-draft.ensures;
+  sound = c.in_ok-survey.ensures.answer;
+  before = begun_none (g.B.Book.meaning c.args.book.now) c.args.bytes.now c.in_ok-survey.survey _ c.in_ok-draft.ensures;
 }
 
 pub name-links-requires : goal.name-links-requires
-name-links-requires g c = record { sound = c.in-ok-survey.ensures.answer; before = c.add-cells.ensures }
+name-links-requires g c = record { sound = c.in_ok-survey.ensures.answer; before = c.add-cells.ensures }
 
 -- every link is named, and all are mutual
 pub unreachable-requires : goal.unreachable-requires
 unreachable-requires g c =
-    no_fault (g.B.Book.meaning c.args.book.now) c.args.bytes.now c.in-ok-survey.survey c.in-ok-survey.ensures.answer _
+    no_fault (g.B.Book.meaning c.args.book.now) c.args.bytes.now c.in_ok-survey.survey c.in_ok-survey.ensures.answer _
     c.name_links_lem.ensures.celled (λ x. c.name_links_lem.ensures.named x tt) (at c.in-Err.field-0) c.in-Err.ensures.0
 
 pub returns : goal.returns
 returns g c =
-    let survey = c.in-ok-survey.ensures in
+    let survey = c.in_ok-survey.ensures in
     record {
-      answer = read_as (g.B.Book.meaning c.args.book.now) c.args.bytes.now c.in-ok-survey.survey survey.answer _
+      answer = read_as (g.B.Book.meaning c.args.book.now) c.args.bytes.now c.in_ok-survey.survey survey.answer _
           c.name_links_lem.ensures.celled (λ x. c.name_links_lem.ensures.named x tt) (λ i. omega (arith, c.type-inv.bytes i)) c.in-Ok.table c.in-Ok.ensures.0;
       one = survey.one;
     }

@@ -3,15 +3,15 @@ use Rattle.std.proofs.lemmas.Result.{err_from_is_err_and}
 use Rattle.netfile.proofs.Verdicts.{Reached, ends_fault, reached_none, reached_more, reached_fault, reached_all, left_over}
 use Rattle.netfile.proofs.survey.find_cells.Goals as goal
 
-pub returns-in-err-check-links : goal.returns-in-err-check-links
-returns-in-err-check-links g c =
+pub returns-in_err-check-links : goal.returns-in_err-check-links
+returns-in_err-check-links g c =
     let p = err_from_is_err_and c.from-residual.result c.from-residual.ensures.1 in
     rw (p.1, p.2)
-    (ends_fault (g.B.Book.meaning c.args.book.now) c.args.bytes.now c.args.head c.requires _ c.in-err-check-links.ensures)
+    (ends_fault (g.B.Book.meaning c.args.book.now) c.args.bytes.now c.args.head c.requires _ c.in_err-check-links.ensures)
 
 pub loop-i-init : goal.loop-i-init
 loop-i-init g c =
-    reached_none (g.B.Book.meaning c.args.book.now) c.args.bytes.now c.args.head c.requires _ refl c.in-ok-check-links.ensures
+    reached_none (g.B.Book.meaning c.args.book.now) c.args.bytes.now c.args.head c.requires _ refl c.in_ok-check-links.ensures
 
 pub overflow-cast-starts : goal.overflow-cast-starts
 overflow-cast-starts g c = omega (arith, c.loop-i.invariant.near, c.args.head.small)
@@ -19,16 +19,16 @@ overflow-cast-starts g c = omega (arith, c.loop-i.invariant.near, c.args.head.sm
 pub check-cell-requires : goal.check-cell-requires
 check-cell-requires g c = omega (arith, c.loop-i.invariant.near, c.args.head.small)
 
-pub returns-in-err-at : goal.returns-in-err-at
-returns-in-err-at g c =
-    let p = err_from_is_err_and c.from-residual-in-err-at.result c.from-residual-in-err-at.ensures.1 in
+pub returns-in_err-at : goal.returns-in_err-at
+returns-in_err-at g c =
+    let p = err_from_is_err_and c.from-residual-in_err-at.result c.from-residual-in_err-at.ensures.1 in
     rw (p.1, p.2)
-    (reached_fault (g.B.Book.meaning c.args.book.now) c.args.bytes.now c.args.head c.requires _ c.loop-i.invariant c.loop-i-test.true c.in-err-at.ensures)
+    (reached_fault (g.B.Book.meaning c.args.book.now) c.args.bytes.now c.args.head c.requires _ c.loop-i.invariant c.loop-i-test.true c.in_err-at.ensures)
 
 pub loop-i-preserved : goal.loop-i-preserved
 loop-i-preserved g c =
     reached_more (g.B.Book.meaning c.args.book.now) c.args.bytes.now c.args.head c.requires
-    (g.met.B.Book.lawful c.args.book.now) c.loop-i.invariant c.loop-i-test.true c.in-ok-at.ensures
+    (g.met.B.Book.lawful c.args.book.now) c.loop-i.invariant c.loop-i-test.true c.in_ok-at.ensures
 
 pub returns-in-Some : goal.returns-in-Some
 returns-in-Some g c =

@@ -3,40 +3,40 @@ use Rattle.std.proofs.lemmas.Result.{err_from_is_err_and}
 use Rattle.netfile.proofs.Answer.{one_answer}
 use Rattle.netfile.proofs.survey.survey_file.Goals as goal
 
-pub returns-in-err-head : goal.returns-in-err-head
-returns-in-err-head g c =
+pub returns-in_err-head : goal.returns-in_err-head
+returns-in_err-head g c =
     let p = err_from_is_err_and c.from-residual.result c.from-residual.ensures.1 in
     record {
-      answer = rw (p.1, p.2) c.in-err-head.ensures;
+      answer = rw (p.1, p.2) c.in_err-head.ensures;
       one = one_answer (g.B.Book.meaning c.args.book.now) (g.met.B.Book.lawful c.args.book.now) c.args.bytes.now (λ i. omega (arith, c.type-inv.bytes i));
     }
 
-pub returns-in-err-starts : goal.returns-in-err-starts
-returns-in-err-starts g c =
-    let p = err_from_is_err_and c.from-residual-in-err-starts.result c.from-residual-in-err-starts.ensures.1 in
+pub returns-in_err-starts : goal.returns-in_err-starts
+returns-in_err-starts g c =
+    let p = err_from_is_err_and c.from-residual-in_err-starts.result c.from-residual-in_err-starts.ensures.1 in
     record {
-      answer = rw (p.1, p.2) c.in-err-starts.ensures;
+      answer = rw (p.1, p.2) c.in_err-starts.ensures;
       one = one_answer (g.B.Book.meaning c.args.book.now) (g.met.B.Book.lawful c.args.book.now) c.args.bytes.now (λ i. omega (arith, c.type-inv.bytes i));
     }
 
-pub returns-in-err-check-mutual : goal.returns-in-err-check-mutual
-returns-in-err-check-mutual g c =
-    let p = err_from_is_err_and c.from-residual-in-err-check-mutual.result c.from-residual-in-err-check-mutual.ensures.1 in
+pub returns-in_err-check-mutual : goal.returns-in_err-check-mutual
+returns-in_err-check-mutual g c =
+    let p = err_from_is_err_and c.from-residual-in_err-check-mutual.result c.from-residual-in_err-check-mutual.ensures.1 in
     record {
-      answer = rw (p.1, p.2) c.in-err-check-mutual.ensures;
+      answer = rw (p.1, p.2) c.in_err-check-mutual.ensures;
       one = one_answer (g.B.Book.meaning c.args.book.now) (g.met.B.Book.lawful c.args.book.now) c.args.bytes.now (λ i. omega (arith, c.type-inv.bytes i));
     }
 
 pub returns : goal.returns
 returns g c =
-    let laid = c.in-ok-starts.ensures in
+    let laid = c.in_ok-starts.ensures in
     record {
       answer = record {
-        right = record { headed = c.in-ok-head.ensures; whole = laid.whole; links = c.in-ok-check-mutual.ensures };
+        right = record { headed = c.in_ok-head.ensures; whole = laid.whole; links = c.in_ok-check-mutual.ensures };
         starts = laid.begins;
       };
       one = one_answer (g.B.Book.meaning c.args.book.now) (g.met.B.Book.lawful c.args.book.now) c.args.bytes.now (λ i. omega (arith, c.type-inv.bytes i));
     }
 
 pub check-mutual-requires : goal.check-mutual-requires
-check-mutual-requires g c = record { headed = c.in-ok-head.ensures; laid = c.in-ok-starts.ensures }
+check-mutual-requires g c = record { headed = c.in_ok-head.ensures; laid = c.in_ok-starts.ensures }

@@ -11,10 +11,10 @@ use Rattle.pairs.proofs.rewrite.rewrite_pair.Goals as goal
 pub returns-in-default : goal.returns-in-default
 returns-in-default g c = record { due = ((λ P at R. (c.in-default.ensures P R.active).0 at.0), refl); forms = tt }
 
-pub returns-in-err-places : goal.returns-in-err-places
-returns-in-err-places g c =
+pub returns-in_err-places : goal.returns-in_err-places
+returns-in_err-places g c =
     let p = err_from_is_err_and c.from-residual.result c.from-residual.ensures.1 in
-    record { due = rw (p.1, p.2) c.in-err-places.ensures.due; forms = rw p.1 tt }
+    record { due = rw (p.1, p.2) c.in_err-places.ensures.due; forms = rw p.1 tt }
 
 pub add-first-requires : goal.add-first-requires
 add-first-requires g c =
@@ -28,15 +28,15 @@ returns g c =
     let K = g.B.Book.meaning c.args.book.now in
     let laws = g.met.B.Book.lawful c.args.book.now in
     let s = c.args.table.now in
-    let places = c.in-ok-places.places in
+    let places = c.in_ok-places.places in
     let f = c.in-Some.ensures in
     let cs = c.add-first.new.cells in
     record {
-      due = c.in-ok-places.ensures.due;
+      due = c.in_ok-places.ensures.due;
       forms = λ ofb P at act.
           let side : (f.0.left ≡ P.left) ⊎ (f.0.right ≡ P.left) = elim f.3 [ inl e ↦ inl (e ∙ sym at.0) | inr e ↦ inr (e ∙ sym at.0) ] in
           let n = its_cells K (net s) laws (good s K ofb) P f.0 c.in-Some.pair act f.1 f.2 side in
-          formed_by K laws s c.rewrite.new.self P places ofb (c.in-ok-places.ensures.rewrites ofb P at act) c.add-first.ensures.four
+          formed_by K laws s c.rewrite.new.self P places ofb (c.in_ok-places.ensures.rewrites ofb P at act) c.add-first.ensures.four
           (noted cs) (simp length-take (let e = cs.few in omega arith))
           (c.add-first.ensures.more
           ∙ ap₂ (λ (a b : List ℕ). a ++ b) (c.neighbours-cells.ensures.which ∙ ap₂ (neighbours (net s)) (sym at.0) (sym at.1)) (ap (λ (k : ℕ). take k places) n))

@@ -5,7 +5,7 @@ use Rattle.terms.proofs.survey.survey_text.Goals as goal
 
 pub returns-in-Some : goal.returns-in-Some
 returns-in-Some c =
-    let g = c.in-ok-check-grammar.ensures.answer in
+    let g = c.in_ok-check-grammar.ensures.answer in
     let text = c.args.text.now in
     let w = c.walk-walker.result in
     let T = g.1.0 in
@@ -14,7 +14,7 @@ returns-in-Some c =
 
 pub returns-in-Some-find-unused : goal.returns-in-Some-find-unused
 returns-in-Some-find-unused c =
-    let g = c.in-ok-check-grammar.ensures.answer in
+    let g = c.in_ok-check-grammar.ensures.answer in
     let text = c.args.text.now in
     let w = c.walk-walker.result in
     let T = g.1.0 in
@@ -23,7 +23,7 @@ returns-in-Some-find-unused c =
 
 pub returns-then-walker-gt63 : goal.returns-then-walker-gt63
 returns-then-walker-gt63 c =
-    let g = c.in-ok-check-grammar.ensures.answer in
+    let g = c.in_ok-check-grammar.ensures.answer in
     let text = c.args.text.now in
     let w = c.walk-walker.result in
     let T = g.1.0 in
@@ -33,7 +33,7 @@ returns-then-walker-gt63 c =
 
 pub returns : goal.returns
 returns c =
-    let g = c.in-ok-check-grammar.ensures.answer in
+    let g = c.in_ok-check-grammar.ensures.answer in
     let text = c.args.text.now in
     let w = c.walk-walker.result in
     let T = g.1.0 in

@@ -7,11 +7,11 @@ use Rattle.nets.specs.Layout.{slots, slot_of, goal as goal', nil}
 use Rattle.nets.specs.Drafts.{Begun, plan}
 use Rattle.nets.proofs.draft.Draft.new.Goals as goal
 
-pub returns-in-err-kinds : goal.returns-in-err-kinds
-returns-in-err-kinds c = IfOk-from_err c.from-residual-in-err-kinds.result (λ d. Begun c.args.ends c.args.loops (plan d)) c.from-residual-in-err-kinds.ensures.0
+pub returns-in_err-kinds : goal.returns-in_err-kinds
+returns-in_err-kinds c = IfOk-from_err c.from-residual-in_err-kinds.result (λ d. Begun c.args.ends c.args.loops (plan d)) c.from-residual-in_err-kinds.ensures.0
 
-pub returns-in-err-arities : goal.returns-in-err-arities
-returns-in-err-arities c = IfOk-from_err c.from-residual-in-err-arities.result (λ d. Begun c.args.ends c.args.loops (plan d)) c.from-residual-in-err-arities.ensures.0
+pub returns-in_err-arities : goal.returns-in_err-arities
+returns-in_err-arities c = IfOk-from_err c.from-residual-in_err-arities.result (λ d. Begun c.args.ends c.args.loops (plan d)) c.from-residual-in_err-arities.ensures.0
 
 blank : (n k : ℕ) → goal' (replicate n nil) k ≡ 0
 blank n k = go (cases k)
@@ -35,9 +35,9 @@ zeros n r = go (cases r)
 
 pub invariant-of-result : goal.invariant-of-result
 invariant-of-result c =
-    let l : vec_items c.in-ok-links.links ≡ replicate 4376 nil = c.in-ok-links.ensures.items-if-clones-equal (λ y e. e) in
-    let k : vec_items c.in-ok-kinds.kinds ≡ replicate 1024 0 = c.in-ok-kinds.ensures.items-if-clones-equal (λ y e. e) in
-    let a : vec_items c.in-ok-arities.arities ≡ replicate 1024 0 = c.in-ok-arities.ensures.items-if-clones-equal (λ y e. e) in (
+    let l : vec_items c.in_ok-links.links ≡ replicate 4376 nil = c.in_ok-links.ensures.items-if-clones-equal (λ y e. e) in
+    let k : vec_items c.in_ok-kinds.kinds ≡ replicate 1024 0 = c.in_ok-kinds.ensures.items-if-clones-equal (λ y e. e) in
+    let a : vec_items c.in_ok-arities.arities ≡ replicate 1024 0 = c.in_ok-arities.ensures.items-if-clones-equal (λ y e. e) in (
       ap length l ∙ length-replicate 4376 nil,
       (
         (λ i h. let z = ap (λ (xs : List Link). goal' xs i) l ∙ blank 4376 i in omega arith),
@@ -45,7 +45,7 @@ invariant-of-result c =
           ap length k ∙ length-replicate {A = ℕ} 1024 0,
           (
             ap length a ∙ length-replicate {A = ℕ} 1024 0,
-            ((λ r. let z : get_or (vec_items c.in-ok-arities.arities) r 0 ≡ 0 = ap (λ (xs : List ℕ). get_or xs r 0) a ∙ zeros 1024 r in omega arith), (omega arith, (omega (arith, c.min.ensures), omega (arith, c.min-2.ensures)))),
+            ((λ r. let z : get_or (vec_items c.in_ok-arities.arities) r 0 ≡ 0 = ap (λ (xs : List ℕ). get_or xs r 0) a ∙ zeros 1024 r in omega arith), (omega arith, (omega (arith, c.min.ensures), omega (arith, c.min-2.ensures)))),
           ),
         ),
       ),

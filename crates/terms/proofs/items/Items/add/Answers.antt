@@ -10,13 +10,13 @@ pub returns-then-len-ge63 : goal.returns-then-len-ge63
 returns-then-len-ge63 c =
     let xs = vec_items c.args.self.now.items in
     let e = length-map xs spelled in
-    ((c.in-ok-new.ensures.0, (λ h. both_ways _ c.if-has.false (c.has.ensures.1 h)), omega arith), refl)
+    ((c.in_ok-new.ensures.0, (λ h. both_ways _ c.if-has.false (c.has.ensures.1 h)), omega arith), refl)
 
 pub invariant-of-self : goal.invariant-of-self
 invariant-of-self c =
     let xs = vec_items c.args.self.now.items in
-    let x = c.in-ok-new.new in
-    let is : spelled x ≡ c.args.item.now = c.in-ok-new.ensures.1 in
+    let x = c.in_ok-new.new in
+    let is : spelled x ≡ c.args.item.now = c.in_ok-new.ensures.1 in
     let new : Has (map spelled xs) (spelled x) → ⊥ =
     λ h. both_ways _ c.if-has.false (c.has.ensures.1 (subst (Has (map spelled xs)) is h)) in (
       omega (arith, c.args.self.now.room, c.push-reserved.ensures.capacity),
@@ -29,10 +29,10 @@ invariant-of-self c =
 pub returns : goal.returns
 returns c =
     let xs = vec_items c.args.self.now.items in
-    let x = c.in-ok-new.new in
+    let x = c.in_ok-new.new in
     let e = length-map xs spelled in
-    let is : spelled x ≡ c.args.item.now = c.in-ok-new.ensures.1 in (
-      c.in-ok-new.ensures.0,
+    let is : spelled x ≡ c.args.item.now = c.in_ok-new.ensures.1 in (
+      c.in_ok-new.ensures.0,
       (λ h. both_ways _ c.if-has.false (c.has.ensures.1 h)),
       omega arith,
       ap (map spelled) c.push-reserved.ensures.items ∙ map_push spelled xs x ∙ ap (λ w. map spelled xs ++ w ∷ []) is,
