@@ -7,7 +7,7 @@ use Rattle.netfile.proofs.mutual.check_mutual.Goals as goal
 
 pub returns-in_err-check-spot : goal.returns-in_err-check-spot
 returns-in_err-check-spot g c =
-    let p = err_from_is_err_and c.from-residual.result c.from-residual.ensures.1 in
+    let p = err_from_is_err_and c.from_residual.result c.from_residual.ensures.1 in
     let s = c.args.survey.now in
     rw (p.1, p.2)
     (first_end (g.B.Book.meaning c.args.book.now) c.args.bytes.now s.head s.starts c.requires.laid c.requires.headed
@@ -20,7 +20,7 @@ loop-end-preserved g c =
 
 pub returns-in_err-check-ports : goal.returns-in_err-check-ports
 returns-in_err-check-ports g c =
-    let p = err_from_is_err_and c.from-residual-in_err-check-ports.result c.from-residual-in_err-check-ports.ensures.1 in
+    let p = err_from_is_err_and c.from_residual-in_err-check-ports.result c.from_residual-in_err-check-ports.ensures.1 in
     let s = c.args.survey.now in
     let (j, fault, ports) = c.in_err-check-ports.ensures in
     rw (p.1, p.2)

@@ -8,7 +8,7 @@ use Rattle.netfile.proofs.reader.read.Goals as goal
 
 pub returns-in_err-survey : goal.returns-in_err-survey
 returns-in_err-survey g c =
-    let p = err_from_is_err_and c.from-residual.result c.from-residual.ensures.1 in
+    let p = err_from_is_err_and c.from_residual.result c.from_residual.ensures.1 in
     let survey = c.in_err-survey.ensures in
     record {
       answer = rw (p.1, p.2) (answered (g.B.Book.meaning c.args.book.now) c.args.bytes.now c.in_err-survey.field-0.0 survey.answer);
@@ -17,7 +17,7 @@ returns-in_err-survey g c =
 
 pub returns-in_err-draft : goal.returns-in_err-draft
 returns-in_err-draft g c =
-    let p = err_from_is_err_and c.from-residual-in_err-draft.result c.from-residual-in_err-draft.ensures.1 in
+    let p = err_from_is_err_and c.from_residual-in_err-draft.result c.from_residual-in_err-draft.ensures.1 in
     record { answer = rw (p.1, p.2) tt; one = c.in_ok-survey.ensures.one }
 
 pub add-cells-requires : goal.add-cells-requires

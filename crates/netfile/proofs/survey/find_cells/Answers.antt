@@ -5,7 +5,7 @@ use Rattle.netfile.proofs.survey.find_cells.Goals as goal
 
 pub returns-in_err-check-links : goal.returns-in_err-check-links
 returns-in_err-check-links g c =
-    let p = err_from_is_err_and c.from-residual.result c.from-residual.ensures.1 in
+    let p = err_from_is_err_and c.from_residual.result c.from_residual.ensures.1 in
     rw (p.1, p.2)
     (ends_fault (g.B.Book.meaning c.args.book.now) c.args.bytes.now c.args.head c.requires _ c.in_err-check-links.ensures)
 
@@ -21,7 +21,7 @@ check-cell-requires g c = omega (arith, c.loop-i.invariant.near, c.args.head.sma
 
 pub returns-in_err-at : goal.returns-in_err-at
 returns-in_err-at g c =
-    let p = err_from_is_err_and c.from-residual-in_err-at.result c.from-residual-in_err-at.ensures.1 in
+    let p = err_from_is_err_and c.from_residual-in_err-at.result c.from_residual-in_err-at.ensures.1 in
     rw (p.1, p.2)
     (reached_fault (g.B.Book.meaning c.args.book.now) c.args.bytes.now c.args.head c.requires _ c.loop-i.invariant c.loop-i-test.true c.in_err-at.ensures)
 

@@ -5,7 +5,7 @@ use Rattle.netfile.proofs.survey.survey_file.Goals as goal
 
 pub returns-in_err-head : goal.returns-in_err-head
 returns-in_err-head g c =
-    let p = err_from_is_err_and c.from-residual.result c.from-residual.ensures.1 in
+    let p = err_from_is_err_and c.from_residual.result c.from_residual.ensures.1 in
     record {
       answer = rw (p.1, p.2) c.in_err-head.ensures;
       one = one_answer (g.B.Book.meaning c.args.book.now) (g.met.B.Book.lawful c.args.book.now) c.args.bytes.now (λ i. omega (arith, c.type-inv.bytes i));
@@ -13,7 +13,7 @@ returns-in_err-head g c =
 
 pub returns-in_err-starts : goal.returns-in_err-starts
 returns-in_err-starts g c =
-    let p = err_from_is_err_and c.from-residual-in_err-starts.result c.from-residual-in_err-starts.ensures.1 in
+    let p = err_from_is_err_and c.from_residual-in_err-starts.result c.from_residual-in_err-starts.ensures.1 in
     record {
       answer = rw (p.1, p.2) c.in_err-starts.ensures;
       one = one_answer (g.B.Book.meaning c.args.book.now) (g.met.B.Book.lawful c.args.book.now) c.args.bytes.now (λ i. omega (arith, c.type-inv.bytes i));
@@ -21,7 +21,7 @@ returns-in_err-starts g c =
 
 pub returns-in_err-check-mutual : goal.returns-in_err-check-mutual
 returns-in_err-check-mutual g c =
-    let p = err_from_is_err_and c.from-residual-in_err-check-mutual.result c.from-residual-in_err-check-mutual.ensures.1 in
+    let p = err_from_is_err_and c.from_residual-in_err-check-mutual.result c.from_residual-in_err-check-mutual.ensures.1 in
     record {
       answer = rw (p.1, p.2) c.in_err-check-mutual.ensures;
       one = one_answer (g.B.Book.meaning c.args.book.now) (g.met.B.Book.lawful c.args.book.now) c.args.bytes.now (λ i. omega (arith, c.type-inv.bytes i));

@@ -6,7 +6,7 @@ use Rattle.pairs.proofs.gather.led_by.Goals as goal
 
 pub returns-in_err-pair : goal.returns-in_err-pair
 returns-in_err-pair g c =
-    rw c.from-residual.ensures
+    rw c.from_residual.ensures
     (λ G. led_none (g.B.Book.meaning c.args.book.now) (g.met.B.Book.lawful c.args.book.now) (net c.args.table.now) G c.args.place c.in_err-pair.ensures)
 
 pub returns-then-lower-place : goal.returns-then-lower-place

@@ -13,7 +13,7 @@ returns-in-default g c = record { due = ((λ P at R. (c.in-default.ensures P R.a
 
 pub returns-in_err-places : goal.returns-in_err-places
 returns-in_err-places g c =
-    let p = err_from_is_err_and c.from-residual.result c.from-residual.ensures.1 in
+    let p = err_from_is_err_and c.from_residual.result c.from_residual.ensures.1 in
     record { due = rw (p.1, p.2) c.in_err-places.ensures.due; forms = rw p.1 tt }
 
 pub add-first-requires : goal.add-first-requires

@@ -14,7 +14,7 @@ returns-in_err-join c =
     let t = c.args.self.now in
     let p = got_none t.joins c.args.i c.get.result c.get.ensures.lookup c.in_err-join.was in
     let q = mapped_front wire_of t.joins t.wires c.args.i c.if-i-self.false in
-    ap (option_map joined) c.from-residual.ensures ∙ sym (q ∙ ap (option_map wire_of) p)
+    ap (option_map joined) c.from_residual.ensures ∙ sym (q ∙ ap (option_map wire_of) p)
 
 pub returns : goal.returns
 returns c =

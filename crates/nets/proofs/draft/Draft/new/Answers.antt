@@ -8,10 +8,10 @@ use Rattle.nets.specs.Drafts.{Begun, plan}
 use Rattle.nets.proofs.draft.Draft.new.Goals as goal
 
 pub returns-in_err-kinds : goal.returns-in_err-kinds
-returns-in_err-kinds c = IfOk-from_err c.from-residual-in_err-kinds.result (λ d. Begun c.args.ends c.args.loops (plan d)) c.from-residual-in_err-kinds.ensures.0
+returns-in_err-kinds c = IfOk-from_err c.from_residual-in_err-kinds.result (λ d. Begun c.args.ends c.args.loops (plan d)) c.from_residual-in_err-kinds.ensures.0
 
 pub returns-in_err-arities : goal.returns-in_err-arities
-returns-in_err-arities c = IfOk-from_err c.from-residual-in_err-arities.result (λ d. Begun c.args.ends c.args.loops (plan d)) c.from-residual-in_err-arities.ensures.0
+returns-in_err-arities c = IfOk-from_err c.from_residual-in_err-arities.result (λ d. Begun c.args.ends c.args.loops (plan d)) c.from_residual-in_err-arities.ensures.0
 
 blank : (n k : ℕ) → goal' (replicate n nil) k ≡ 0
 blank n k = go (cases k)
