@@ -17,7 +17,7 @@ more n k v map s f g i h j q = go (cases_eq i k)
 pub loop-i-preserved : goal.loop-i-preserved
 loop-i-preserved c =
     let l = c.loop-i.invariant.0 in
-    (simp length-set l, more c.args.cells c.loop-i.i c.front-byte.result c.loop-i.map (omega arith) c.loop-i.invariant.1 c.front-byte.ensures)
+    (simp length-set l, more c.args.cells c.loop-i.i c.front_byte.result c.loop-i.map (omega arith) c.loop-i.invariant.1 c.front_byte.ensures)
 
 pub returns : goal.returns
 returns c = front_of c.args.cells c.loop-i.map (omega arith) c.loop-i.invariant.0 (λ i j h k. c.loop-i.invariant.1 i (omega arith) j k)

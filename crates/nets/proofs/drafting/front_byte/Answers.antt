@@ -12,7 +12,7 @@ returns-then-before-ge8 c j h =
 
 pub returns-else-before-ge8 : goal.returns-else-before-ge8
 returns-else-before-ge8 c j h =
-    let p : 2 ^ c.saturating-sub-before.result < 256 = pow_below c.saturating-sub-before.result 8 c.if-before-ge8.false in
-    let e : 1 * 2 ^ c.saturating-sub-before.result % 256 ≡ 2 ^ c.saturating-sub-before.result = omega arith in
-    ap (λ (x : ℕ). (x - 1) / 2 ^ j % 2) e ∙ low_bits c.saturating-sub-before.result j (omega arith) h
-    ∙ ap (λ (t : Bool). cond t 1 0) (same_test j c.saturating-sub-before.result (c.args.i * 8 + j) c.args.cells (λ k. omega arith) (λ k. omega arith))
+    let p : 2 ^ c.saturating_sub-before.result < 256 = pow_below c.saturating_sub-before.result 8 c.if-before-ge8.false in
+    let e : 1 * 2 ^ c.saturating_sub-before.result % 256 ≡ 2 ^ c.saturating_sub-before.result = omega arith in
+    ap (λ (x : ℕ). (x - 1) / 2 ^ j % 2) e ∙ low_bits c.saturating_sub-before.result j (omega arith) h
+    ∙ ap (λ (t : Bool). cond t 1 0) (same_test j c.saturating_sub-before.result (c.args.i * 8 + j) c.args.cells (λ k. omega arith) (λ k. omega arith))

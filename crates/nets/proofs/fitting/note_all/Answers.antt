@@ -7,21 +7,21 @@ use Rattle.nets.proofs.Notings.{note_at, past_none, wires_few, tied_wired, marke
 use Rattle.std.specs.List.{slice_get}
 use Rattle.nets.proofs.fitting.note_all.Goals as goal
 
-pub returns-in-default : goal.returns-in-default
-returns-in-default c = (c.loop-i.i, past_none (wires_of c.args.rule.now) c.loop-i.i c.in-default.ensures, c.loop-i.invariant)
+pub returns-in_default : goal.returns-in_default
+returns-in_default c = (c.loop-i.i, past_none (wires_of c.args.rule.now) c.loop-i.i c.in_default.ensures, c.loop-i.invariant)
 
-pub returns-then-not-is-paired : goal.returns-then-not-is-paired
-returns-then-not-is-paired c = λ F.
+pub returns-then-not-is_paired : goal.returns-then-not-is_paired
+returns-then-not-is_paired c = λ F.
     let u = port_of c.in-Some.wire.from.row c.in-Some.wire.from.port in
     let v = port_of c.in-Some.wire.to.row c.in-Some.wire.to.port in
-    c.if-not-is-paired.ensures
+    c.if-not-is_paired.ensures
     (F.pairs_only u v (tied_wired (wires_of c.args.rule.now) (Prim.Native.Nat.◌+◌ c.loop-i.i 1) u v (c.loop-i.i, (u, v), omega arith, sym c.in-Some.ensures, inl (refl, refl))))
 
-pub returns-then-not-is-paired-2 : goal.returns-then-not-is-paired-2
-returns-then-not-is-paired-2 c = λ F.
+pub returns-then-not-is_paired-2 : goal.returns-then-not-is_paired-2
+returns-then-not-is_paired-2 c = λ F.
     let u = port_of c.in-Some.wire.from.row c.in-Some.wire.from.port in
     let v = port_of c.in-Some.wire.to.row c.in-Some.wire.to.port in
-    c.if-not-is-paired-2.ensures
+    c.if-not-is_paired-2.ensures
     (F.pairs_only v u (tied_wired (wires_of c.args.rule.now) (Prim.Native.Nat.◌+◌ c.loop-i.i 1) v u (c.loop-i.i, (u, v), omega arith, sym c.in-Some.ensures, inr (refl, refl))))
 
 pub returns-then-not-note : goal.returns-then-not-note
@@ -31,8 +31,8 @@ returns-then-not-note c = λ F.
     let eu : note_of (port_of c.in-Some.wire.from.row c.in-Some.wire.from.port) ≡ c.index.result = note_at c.in-Some.wire.from.row c.in-Some.wire.from.port ∙ sym c.index.ensures in
     let ev : note_of (port_of c.in-Some.wire.to.row c.in-Some.wire.to.port) ≡ c.index-in-loop-i.result = note_at c.in-Some.wire.to.row c.in-Some.wire.to.port ∙ sym c.index-in-loop-i.ensures in
     let at : slice_get (wires_of c.args.rule.now) c.loop-i.i ≡ Some (u, v) = sym c.in-Some.ensures in
-    let pu = c.if-not-is-paired.ensures in
-    let pv = c.if-not-is-paired-2.ensures in
+    let pu = c.if-not-is_paired.ensures in
+    let pv = c.if-not-is_paired-2.ensures in
     let a = agrees c.args.left c.args.right c.args.rule.now c.requires.few c.requires.small c.requires.ports.0 c.requires.ports.1 (wires_of c.args.rule.now) c.loop-i.i c.loop-i.mates c.loop-i.invariant u v at pu pv F refl in
     let b = agrees_back c.args.left c.args.right c.args.rule.now c.requires.few c.requires.small c.requires.ports.0 c.requires.ports.1 (wires_of c.args.rule.now) c.loop-i.i c.loop-i.mates c.loop-i.invariant u v at pu pv F refl in
     let o = other_note c.args.left c.args.right c.args.rule.now c.requires.few c.requires.small c.requires.ports.0 c.requires.ports.1 (wires_of c.args.rule.now) c.loop-i.i c.loop-i.mates c.loop-i.invariant u v at pu pv F refl in
@@ -48,7 +48,7 @@ loop-i-preserved c =
     let ev : c.index-in-loop-i.result ≡ note_of (port_of c.in-Some.wire.to.row c.in-Some.wire.to.port) = c.index-in-loop-i.ensures ∙ sym (note_at c.in-Some.wire.to.row c.in-Some.wire.to.port) in
     let at : slice_get (wires_of c.args.rule.now) c.loop-i.i ≡ Some (u, v) = sym c.in-Some.ensures in
     marked_more c.args.left c.args.right c.args.rule.now c.requires.few c.requires.small c.requires.ports.0 c.requires.ports.1 (wires_of c.args.rule.now) c.loop-i.i c.loop-i.mates c.loop-i.invariant u v at
-    c.if-not-is-paired.ensures c.if-not-is-paired-2.ensures c.note.new.mates
+    c.if-not-is_paired.ensures c.if-not-is_paired-2.ensures c.note.new.mates
     (subst (λ (t : ℕ). Noted c.loop-i.mates (note_of u) t c.note.new.mates true) ev
     (subst (λ (s : ℕ). Noted c.loop-i.mates s c.index-in-loop-i.result c.note.new.mates true) eu c.if-not-note.ensures))
 

@@ -7,10 +7,10 @@ use Rattle.nets.proofs.Notings.{past_none, wires_few, tied_wired}
 use Rattle.nets.proofs.Laying.{known_row, laid_all, from_small, to_small, laid_more}
 use Rattle.nets.proofs.lay.lay.Goals as goal
 
-pub returns-in-default : goal.returns-in-default
-returns-in-default c =
+pub returns-in_default : goal.returns-in_default
+returns-in_default c =
     laid_all (vec_items c.args.links.now) (vec_items c.loop-i.links) (wires_of c.args.rule.now) c.args.places.now c.loop-i.i
-    (past_none (wires_of c.args.rule.now) c.loop-i.i c.in-default.ensures) c.loop-i.invariant
+    (past_none (wires_of c.args.rule.now) c.loop-i.i c.in_default.ensures) c.loop-i.invariant
 
 pub returns : goal.returns
 returns c =

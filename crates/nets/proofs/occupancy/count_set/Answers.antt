@@ -5,8 +5,8 @@ use Rattle.std.proofs.lemmas.List.{take_all, get_or_past}
 use Rattle.nets.proofs.Places.{cells_are_bits}
 use Rattle.nets.proofs.occupancy.count_set.Goals as goal
 
-pub overflow-add-n : goal.overflow-add-n
-overflow-add-n c = let h : ones (get_or c.args.map.now c.loop-byte.byte-index 0) ≤ 8 = ones-le 8 _ (search rules) in omega arith
+pub overflow_add-n : goal.overflow_add-n
+overflow_add-n c = let h : ones (get_or c.args.map.now c.loop-byte.byte-index 0) ≤ 8 = ones-le 8 _ (search rules) in omega arith
 
 pub loop-byte-preserved : goal.loop-byte-preserved
 loop-byte-preserved c =

@@ -33,20 +33,18 @@ zeros n r = go (cases r)
     go (inl h) = get_or-replicate n r 0 0 h
     go (inr h) = get_or_past (replicate n 0) r 0 (let z : length {A = ℕ} (replicate n 0) ≡ n = length-replicate n 0 in omega arith)
 
-pub invariant-of-result : goal.invariant-of-result
-invariant-of-result c =
-    let l : vec_items c.in_ok-links.links ≡ replicate 4376 nil = c.in_ok-links.ensures.items-if-clones-equal (λ y e. e) in
-    let k : vec_items c.in_ok-kinds.kinds ≡ replicate 1024 0 = c.in_ok-kinds.ensures.items-if-clones-equal (λ y e. e) in
-    let a : vec_items c.in_ok-arities.arities ≡ replicate 1024 0 = c.in_ok-arities.ensures.items-if-clones-equal (λ y e. e) in (
-      ap length l ∙ length-replicate 4376 nil,
-      (
-        (λ i h. let z = ap (λ (xs : List Link). goal' xs i) l ∙ blank 4376 i in omega arith),
-        (
-          ap length k ∙ length-replicate {A = ℕ} 1024 0,
-          (
-            ap length a ∙ length-replicate {A = ℕ} 1024 0,
-            ((λ r. let z : get_or (vec_items c.in_ok-arities.arities) r 0 ≡ 0 = ap (λ (xs : List ℕ). get_or xs r 0) a ∙ zeros 1024 r in omega arith), (omega arith, (omega (arith, c.min.ensures), omega (arith, c.min-2.ensures)))),
-          ),
-        ),
-      ),
-    )
+pub invariant_of-result : goal.invariant_of-result
+invariant_of-result c =
+    let l : vec_items c.in_ok-links.links ≡ replicate 4376 nil = c.in_ok-links.ensures.items_if_clones_equal (λ y e. e) in
+    let k : vec_items c.in_ok-kinds.kinds ≡ replicate 1024 0 = c.in_ok-kinds.ensures.items_if_clones_equal (λ y e. e) in
+    let a : vec_items c.in_ok-arities.arities ≡ replicate 1024 0 = c.in_ok-arities.ensures.items_if_clones_equal (λ y e. e) in
+    record {
+      long = ap length l ∙ length-replicate 4376 nil;
+      inside = λ i h. let z = ap (λ (xs : List Link). goal' xs i) l ∙ blank 4376 i in omega arith;
+      every = ap length k ∙ length-replicate {A = ℕ} 1024 0;
+      all = ap length a ∙ length-replicate {A = ℕ} 1024 0;
+      ports = λ r. let z : get_or (vec_items c.in_ok-arities.arities) r 0 ≡ 0 = ap (λ (xs : List ℕ). get_or xs r 0) a ∙ zeros 1024 r in omega arith;
+      room = omega arith;
+      few = omega (arith, c.min.ensures);
+      counted = omega (arith, c.min-2.ensures);
+    }

@@ -34,13 +34,13 @@ byte-requires-3 c =
 pub returns : goal.returns
 returns c =
     let t = c.args.self.now in
-    told_same (Fitting c.byte_2.result c.byte_3.result c.args.rule.now) (Suits c.args.self.now c.args.left c.args.right c.args.rule.now) c.fits.result
+    told_same (Fitting c.byte-2.result c.byte-3.result c.args.rule.now) (Suits c.args.self.now c.args.left c.args.right c.args.rule.now) c.fits.result
     (λ F. record {
       left = some_kind (content t) c.args.left (p_on t c.args.left c.args.right c.requires) ∙ ap (λ (v : ℕ). Some v) (sym c.byte.ensures ∙ c.if-byte-rule.false);
       right = some_kind (content t) c.args.right (q_on t c.args.left c.args.right c.requires) ∙ ap (λ (v : ℕ). Some v) (sym c.byte-else-byte-rule.ensures ∙ c.if-byte-rule-2.false);
-      fitting = subst (λ (a : ℕ). Fitting a (ports_at c.args.self.now c.args.right) c.args.rule.now) c.byte_2.ensures
-          (subst (λ (b : ℕ). Fitting c.byte_2.result b c.args.rule.now) c.byte_3.ensures F);
+      fitting = subst (λ (a : ℕ). Fitting a (ports_at c.args.self.now c.args.right) c.args.rule.now) c.byte-2.ensures
+          (subst (λ (b : ℕ). Fitting c.byte-2.result b c.args.rule.now) c.byte-3.ensures F);
     })
-    (λ S. subst (λ (b : ℕ). Fitting c.byte_2.result b c.args.rule.now) (sym c.byte_3.ensures)
-    (subst (λ (a : ℕ). Fitting a (ports_at c.args.self.now c.args.right) c.args.rule.now) (sym c.byte_2.ensures) S.fitting))
+    (λ S. subst (λ (b : ℕ). Fitting c.byte-2.result b c.args.rule.now) (sym c.byte-3.ensures)
+    (subst (λ (a : ℕ). Fitting a (ports_at c.args.self.now c.args.right) c.args.rule.now) (sym c.byte-2.ensures) S.fitting))
     c.fits.ensures

@@ -7,7 +7,7 @@ use Rattle.nets.proofs.Counting.{cells_are}
 use Rattle.nets.proofs.Seatings.{turn_small, places}
 use Rattle.nets.proofs.Finishing.{Did, relinked_of, downwards, p_on, q_on, p_low, q_low, room_of, few_loops, slots_other, slots_standing, slots_back, whole_links, few_ports, map_long, rewriting_K, of_book_K, seats_K}
 use Rattle.nets.proofs.table.Table.replace.Goals as goal
-use Rattle.nets.proofs.table.Table.replace.Goals.{After-take-places-places, After-fill-2}
+use Rattle.nets.proofs.table.Table.replace.Goals.{After-take_places-places, After-fill-2}
 
 pub byte-a-requires : goal.byte-a-requires
 byte-a-requires c =
@@ -21,8 +21,8 @@ byte-b-requires c =
     let e : 1024 ≡ vec_len c.args.self.now.arities = sym c.args.self.now.all ∙ sym c.args.self.now.arities.ok.0 in
     omega arith
 
-pub take-places-places-requires : goal.take-places-places-requires
-take-places-places-requires c =
+pub take_places-places-requires : goal.take_places-places-requires
+take_places-places-requires c =
     let e = cells_are (content c.args.self.now) 1024 in
     let f = c.requires.places in
     record {
@@ -59,9 +59,9 @@ clear-low-requires c =
     }
 
 -- the places of the new cells
-seats : (c : After-take-places-places) → Places (place c.take-places-places.result) c.args.rule.now.cells
+seats : (c : After-take_places-places) → Places (place c.take_places-places.result) c.args.rule.now.cells
 seats c =
-    places c.args.left c.args.right c.args.rule.now.cells c.args.self.now.occupied c.take-places-places.result c.take-places-places.new.map c.take-places-places.ensures
+    places c.args.left c.args.right c.args.rule.now.cells c.args.self.now.occupied c.take_places-places.result c.take_places-places.new.map c.take_places-places.ensures
     c.requires.suits.fitting.few c.requires.facing.1
     (p_low c.args.self.now c.args.left c.args.right c.requires.facing) (q_low c.args.self.now c.args.left c.args.right c.requires.facing)
     (p_on c.args.self.now c.args.left c.args.right c.requires.facing) (q_on c.args.self.now c.args.left c.args.right c.requires.facing)
@@ -70,82 +70,71 @@ pub lay-requires : goal.lay-requires
 lay-requires c = record {
   whole = c.clear-low.ensures.whole;
   room = room_of (ports_at c.args.self.now c.args.left) (ports_at c.args.self.now c.args.right) c.args.rule.now c.requires.suits.fitting
-      (c.args.self.now.ports c.args.left) (c.args.self.now.ports c.args.right) c.take-places-places.result (seats (goal.at.lay-requires c).After-take-places-places)
-      c.take-places-places.ensures.left c.take-places-places.ensures.right;
+      (c.args.self.now.ports c.args.left) (c.args.self.now.ports c.args.right) c.take_places-places.result (seats (goal.at.lay-requires c).After-take_places-places)
+      c.take_places-places.ensures.left c.take_places-places.ensures.right;
 }
 
 pub fill-requires : goal.fill-requires
 fill-requires c = record {
   long = c.args.self.now.kinds.ok.0 ∙ c.args.self.now.every;
   few = c.requires.suits.fitting.few;
-  places = seats (goal.at.fill-requires c).After-take-places-places;
+  places = seats (goal.at.fill-requires c).After-take_places-places;
 }
 
 pub fill-requires-2 : goal.fill-requires-2
 fill-requires-2 c = record {
   long = c.args.self.now.arities.ok.0 ∙ c.args.self.now.all;
   few = c.requires.suits.fitting.few;
-  places = seats (goal.at.fill-requires-2 c).After-take-places-places;
+  places = seats (goal.at.fill-requires-2 c).After-take_places-places;
 }
 
 -- what the table holds in the end
 abbrev after : After-fill-2 → Content
 after c = record {
-  links = vec_items c.splice-rows-second.new.links;
+  links = vec_items c.splice_rows-second.new.links;
   kinds = vec_items c.fill.new.items;
   arities = vec_items c.fill-2.new.items;
-  occupied = c.take-places-places.new.map;
+  occupied = c.take_places-places.new.map;
   ends = c.args.self.now.ends;
-  loops = c.args.self.now.loops + c.splice-rows-first.result + c.splice-rows-second.result;
+  loops = c.args.self.now.loops + c.splice_rows-first.result + c.splice_rows-second.result;
 }
 
 did : (c : After-fill-2) → Did c.args.self.now c.args.left c.args.right c.args.rule.now (after c)
 did c = record {
-  ps = c.take-places-places.result;
-  seated = c.take-places-places.ensures;
-  relinked = relinked_of c.args.self.now c.args.left c.args.right c.args.rule.now c.take-places-places.result
-      (vec_items c.clear-top.new.links) (vec_items c.clear-low.new.links) (vec_items c.lay.new.links) (vec_items c.splice-rows-first.new.links) (vec_items c.splice-rows-second.new.links)
-      c.order-turn.result c.byte-a.result c.byte-b.result c.clear-top.result c.clear-low.result c.splice-rows-first.result c.splice-rows-second.result
-      (c.args.self.now.loops + c.splice-rows-first.result + c.splice-rows-second.result)
-      c.order-turn.ensures c.byte-a.ensures c.byte-b.ensures c.clear-top.ensures c.clear-low.ensures c.lay.ensures c.splice-rows-first.ensures c.splice-rows-second.ensures refl;
+  ps = c.take_places-places.result;
+  seated = c.take_places-places.ensures;
+  relinked = relinked_of c.args.self.now c.args.left c.args.right c.args.rule.now c.take_places-places.result
+      (vec_items c.clear-top.new.links) (vec_items c.clear-low.new.links) (vec_items c.lay.new.links) (vec_items c.splice_rows-first.new.links) (vec_items c.splice_rows-second.new.links)
+      c.order-turn.result c.byte-a.result c.byte-b.result c.clear-top.result c.clear-low.result c.splice_rows-first.result c.splice_rows-second.result
+      (c.args.self.now.loops + c.splice_rows-first.result + c.splice_rows-second.result)
+      c.order-turn.ensures c.byte-a.ensures c.byte-b.ensures c.clear-top.ensures c.clear-low.ensures c.lay.ensures c.splice_rows-first.ensures c.splice_rows-second.ensures refl;
   kinds = c.fill.ensures;
   arities = c.fill-2.ensures;
   ends = refl;
 }
 
-pub invariant-of-self : goal.invariant-of-self
-invariant-of-self c =
+pub invariant_of-self : goal.invariant_of-self
+invariant_of-self c =
     let s = c.args.self.now in
     let p = c.args.left in
     let q = c.args.right in
     let r = c.args.rule.now in
     let Y = c.requires in
     let W = did c in
-    let H = whole_links s p q r Y (after c) W in (
-      H.long,
-      (
-        H.inside,
-        (
-          c.fill.ensures.long ∙ s.every,
-          (
-            c.fill-2.ensures.long ∙ s.all,
-            (
-              few_ports s p q r Y (after c) W,
-              (
-                map_long s p q r Y (after c) W,
-                (
-                  s.few,
-                  (
-                    few_loops s p q r Y (after c) W,
-                    (slots_standing s p q r Y (after c) W, (slots_back s p q r Y (after c) W, (slots_other s p q r Y (after c) W, tt))),
-                  ),
-                ),
-              ),
-            ),
-          ),
-        ),
-      ),
-    )
+    let H = whole_links s p q r Y (after c) W in
+    record {
+      long = H.long;
+      inside = H.inside;
+      every = c.fill.ensures.long ∙ s.every;
+      all = c.fill-2.ensures.long ∙ s.all;
+      ports = few_ports s p q r Y (after c) W;
+      wide = map_long s p q r Y (after c) W;
+      few = s.few;
+      counted = few_loops s p q r Y (after c) W;
+      standing = slots_standing s p q r Y (after c) W;
+      back = slots_back s p q r Y (after c) W;
+      other = slots_other s p q r Y (after c) W;
+    }
 
 pub returns : goal.returns
 unfolding did
@@ -158,7 +147,7 @@ returns c =
     let Y = c.requires in
     λ K i w laws ofb dep act. (
       record {
-        place = place c.take-places-places.result;
+        place = place c.take_places-places.result;
         seats = seats_K s p q r Y (after e) (did e) K w i laws ofb dep act;
         rewriting = rewriting_K s p q r Y (after e) (did e) K w i laws ofb dep act;
         of_book = of_book_K s p q r Y (after e) (did e) K w i laws ofb dep act;
