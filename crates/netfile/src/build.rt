@@ -14,10 +14,10 @@ use nets::spot::Spot;
 
 /// Puts the next cell of a file into a draft.
 fn add_cell<B: Book>(book: &B, bytes: &[u8], survey: &Survey, draft: &mut Draft, i: u16)
-    requires sound { Sound (meaning book.now) bytes.now survey.now }
+    requires sound { Sound (B.meaning book.now) bytes.now survey.now }
     requires next { i < survey.now.head.cells }
-    requires before { Celled (meaning book.now) bytes.now survey.now i (plan draft.old) }
-    ensures { Celled (meaning book.now) bytes.now survey.now (i + 1) (plan draft.new) }
+    requires before { Celled (B.meaning book.now) bytes.now survey.now i (plan draft.old) }
+    ensures { Celled (B.meaning book.now) bytes.now survey.now (i + 1) (plan draft.new) }
 {
     let Ok(cell) = cell_at(book, bytes, survey.starts[i as usize] as u32) else {
         unreachable();
@@ -27,9 +27,9 @@ fn add_cell<B: Book>(book: &B, bytes: &[u8], survey: &Survey, draft: &mut Draft,
 
 /// Puts the cells of a file into a draft, cell i into place i.
 pub(crate) fn add_cells<B: Book>(book: &B, bytes: &[u8], survey: &Survey, draft: &mut Draft)
-    requires sound { Sound (meaning book.now) bytes.now survey.now }
-    requires before { Celled (meaning book.now) bytes.now survey.now 0 (plan draft.old) }
-    ensures { Celled (meaning book.now) bytes.now survey.now survey.now.head.cells (plan draft.new) }
+    requires sound { Sound (B.meaning book.now) bytes.now survey.now }
+    requires before { Celled (B.meaning book.now) bytes.now survey.now 0 (plan draft.old) }
+    ensures { Celled (B.meaning book.now) bytes.now survey.now survey.now.head.cells (plan draft.new) }
 {
     for i in 0..survey.head.cells {
         add_cell(book, bytes, survey, draft, i);
@@ -38,9 +38,9 @@ pub(crate) fn add_cells<B: Book>(book: &B, bytes: &[u8], survey: &Survey, draft:
 
 /// Names the link of a spot in a draft as the file does, if the spot is there.
 fn name_link<B: Book>(book: &B, bytes: &[u8], survey: &Survey, draft: &mut Draft, spot: Spot)
-    requires sound { Sound (meaning book.now) bytes.now survey.now }
-    requires before { Celled (meaning book.now) bytes.now survey.now survey.now.head.cells (plan draft.old) }
-    ensures { Naming (meaning book.now) bytes.now survey.now (λ x. x ≡ at spot) (plan draft.old) (plan draft.new) }
+    requires sound { Sound (B.meaning book.now) bytes.now survey.now }
+    requires before { Celled (B.meaning book.now) bytes.now survey.now survey.now.head.cells (plan draft.old) }
+    ensures { Naming (B.meaning book.now) bytes.now survey.now (λ x. x ≡ at spot) (plan draft.old) (plan draft.new) }
 {
     let Some(word) = word_of(book, bytes, survey, spot) else {
         return;
@@ -53,9 +53,9 @@ fn name_link<B: Book>(book: &B, bytes: &[u8], survey: &Survey, draft: &mut Draft
 
 /// Names the links of a cell.
 fn name_ports<B: Book>(book: &B, bytes: &[u8], survey: &Survey, draft: &mut Draft, cell: u16)
-    requires sound { Sound (meaning book.now) bytes.now survey.now }
-    requires before { Celled (meaning book.now) bytes.now survey.now survey.now.head.cells (plan draft.old) }
-    ensures { Naming (meaning book.now) bytes.now survey.now (PortOf cell) (plan draft.old) (plan draft.new) }
+    requires sound { Sound (B.meaning book.now) bytes.now survey.now }
+    requires before { Celled (B.meaning book.now) bytes.now survey.now survey.now.head.cells (plan draft.old) }
+    ensures { Naming (B.meaning book.now) bytes.now survey.now (PortOf cell) (plan draft.old) (plan draft.new) }
 {
     for port in 0..3u8 {
         name_link(book, bytes, survey, draft, Spot::Port(cell, port));
@@ -64,9 +64,9 @@ fn name_ports<B: Book>(book: &B, bytes: &[u8], survey: &Survey, draft: &mut Draf
 
 /// Names every link in a draft as the file does.
 pub(crate) fn name_links<B: Book>(book: &B, bytes: &[u8], survey: &Survey, draft: &mut Draft)
-    requires sound { Sound (meaning book.now) bytes.now survey.now }
-    requires before { Celled (meaning book.now) bytes.now survey.now survey.now.head.cells (plan draft.old) }
-    ensures { Naming (meaning book.now) bytes.now survey.now (λ _. Unit {0}) (plan draft.old) (plan draft.new) }
+    requires sound { Sound (B.meaning book.now) bytes.now survey.now }
+    requires before { Celled (B.meaning book.now) bytes.now survey.now survey.now.head.cells (plan draft.old) }
+    ensures { Naming (B.meaning book.now) bytes.now survey.now (λ _. Unit {0}) (plan draft.old) (plan draft.new) }
 {
     for end in 0..survey.head.ends as u16 {
         name_link(book, bytes, survey, draft, Spot::End(end));

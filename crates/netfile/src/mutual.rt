@@ -23,8 +23,8 @@ fn same(a: Spot, b: Spot) -> bool
 
 /// The word of a spot's link, if the spot is there.
 pub(crate) fn word_of<B: Book>(book: &B, bytes: &[u8], survey: &Survey, spot: Spot) -> Option<u32>
-    requires { Laid (meaning book.now) bytes.now survey.now.head survey.now.starts }
-    ensures { WordOf (meaning book.now) bytes.now survey.now.head (at spot) result }
+    requires { Laid (B.meaning book.now) bytes.now survey.now.head survey.now.starts }
+    ensures { WordOf (B.meaning book.now) bytes.now survey.now.head (at spot) result }
 {
     match spot {
         Spot::End(end) if end < survey.head.ends as u16 => Some(2 + end as u32),
@@ -45,8 +45,8 @@ pub(crate) fn word_of<B: Book>(book: &B, bytes: &[u8], survey: &Survey, spot: Sp
 
 /// Whether the link word of a spot names another spot that names it back.
 fn is_mutual<B: Book>(book: &B, bytes: &[u8], survey: &Survey, spot: Spot, word: u32) -> bool
-    requires { Laid (meaning book.now) bytes.now survey.now.head survey.now.starts }
-    ensures { Decides result (Mutual (meaning book.now) bytes.now survey.now.head.ends survey.now.head.cells (at spot) word) }
+    requires { Laid (B.meaning book.now) bytes.now survey.now.head survey.now.starts }
+    ensures { Decides result (Mutual (B.meaning book.now) bytes.now survey.now.head.ends survey.now.head.cells (at spot) word) }
 {
     let Ok(target) = link_at(bytes, survey.head, word) else {
         return false;
@@ -65,8 +65,8 @@ fn is_mutual<B: Book>(book: &B, bytes: &[u8], survey: &Survey, spot: Spot, word:
 
 /// Looks at the link of a spot, if the spot is there.
 fn check_spot<B: Book>(book: &B, bytes: &[u8], survey: &Survey, spot: Spot) -> Result<(), NetFault>
-    requires { Laid (meaning book.now) bytes.now survey.now.head survey.now.starts }
-    ensures { SpotChecked (meaning book.now) bytes.now survey.now.head (at spot) result }
+    requires { Laid (B.meaning book.now) bytes.now survey.now.head survey.now.starts }
+    ensures { SpotChecked (B.meaning book.now) bytes.now survey.now.head (at spot) result }
 {
     let Some(word) = word_of(book, bytes, survey, spot) else {
         return Ok(());
@@ -80,8 +80,8 @@ fn check_spot<B: Book>(book: &B, bytes: &[u8], survey: &Survey, spot: Spot) -> R
 
 /// Looks at the links of a cell.
 fn check_ports<B: Book>(book: &B, bytes: &[u8], survey: &Survey, cell: u16) -> Result<(), NetFault>
-    requires { Laid (meaning book.now) bytes.now survey.now.head survey.now.starts }
-    ensures { PortsChecked (meaning book.now) bytes.now survey.now.head cell result }
+    requires { Laid (B.meaning book.now) bytes.now survey.now.head survey.now.starts }
+    ensures { PortsChecked (B.meaning book.now) bytes.now survey.now.head cell result }
 {
     for port in 0..3u8 {
         check_spot(book, bytes, survey, Spot::Port(cell, port))?;
@@ -91,9 +91,9 @@ fn check_ports<B: Book>(book: &B, bytes: &[u8], survey: &Survey, cell: u16) -> R
 
 /// Looks at every link, in the order of their words.
 pub(crate) fn check_mutual<B: Book>(book: &B, bytes: &[u8], survey: &Survey) -> Result<(), NetFault>
-    requires headed { Headed (meaning book.now) bytes.now survey.now.head.ends survey.now.head.cells survey.now.head.loops }
-    requires laid { Laid (meaning book.now) bytes.now survey.now.head survey.now.starts }
-    ensures { LinksChecked (meaning book.now) bytes.now survey.now.head result }
+    requires headed { Headed (B.meaning book.now) bytes.now survey.now.head.ends survey.now.head.cells survey.now.head.loops }
+    requires laid { Laid (B.meaning book.now) bytes.now survey.now.head survey.now.starts }
+    ensures { LinksChecked (B.meaning book.now) bytes.now survey.now.head result }
 {
     for end in 0..survey.head.ends as u16 {
         check_spot(book, bytes, survey, Spot::End(end))?;

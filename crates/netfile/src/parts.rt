@@ -16,7 +16,7 @@ pub struct Cell {
 
 /// Reads the first two words of a file, unless its length is wrong.
 pub(crate) fn read_head<B: Book>(book: &B, bytes: &[u8]) -> Result<Head, FileFault>
-    ensures { HeadRead (meaning book.now) bytes.now result }
+    ensures { HeadRead (B.meaning book.now) bytes.now result }
 {
     if bytes.len() < 8 || bytes.len() % 4 != 0 {
         return Err(FileFault::Length);
@@ -32,7 +32,7 @@ pub(crate) fn read_head<B: Book>(book: &B, bytes: &[u8]) -> Result<Head, FileFau
 
 /// The cell at a word.
 pub(crate) fn cell_at<B: Book>(book: &B, bytes: &[u8], at: u32) -> Result<Cell, FileFault>
-    ensures { CellRead (meaning book.now) bytes.now at result }
+    ensures { CellRead (B.meaning book.now) bytes.now at result }
 {
     let Some(word) = word_at(bytes, at) else {
         return Err(FileFault::Words(at));

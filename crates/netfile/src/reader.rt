@@ -57,8 +57,8 @@ impl From<AllocError> for ReadFault {
 /// Reads a net file of the book: cell i of the file into place i. It refuses all bytes that no net of the book has for its file,
 /// for the one fault that is due.
 pub fn read<B: Book>(heap: Global, book: &B, bytes: &[u8]) -> Result<Table, ReadFault>
-    ensures answer { Answered (meaning book.now) bytes.now result }
-    ensures one { OneAnswer (meaning book.now) bytes.now }
+    ensures answer { Answered (B.meaning book.now) bytes.now result }
+    ensures one { OneAnswer (B.meaning book.now) bytes.now }
 {
     let survey = survey_file(book, bytes)?;
     let mut draft = Draft::new(heap, survey.head.ends, survey.head.loops)?;

@@ -58,8 +58,8 @@ impl Fault for SurveyFault {
 /// Looks at every word of a file: the length, the first two words, the words of ends and cells in their order, and then the links.
 /// It answers the numbers of a file with which nothing is wrong, or else the one fault that is due.
 pub fn survey_file<B: Book>(book: &B, bytes: &[u8]) -> Result<Survey, SurveyFault>
-    ensures answer { Surveyed (meaning book.now) bytes.now result }
-    ensures one { OneAnswer (meaning book.now) bytes.now }
+    ensures answer { Surveyed (B.meaning book.now) bytes.now result }
+    ensures one { OneAnswer (B.meaning book.now) bytes.now }
 {
     let head = read_head(book, bytes)?;
     let starts = find_cells(book, bytes, head)?;
@@ -81,7 +81,7 @@ fn check_links(bytes: &[u8], head: Head, from: u32, to: u32) -> Result<(), FileF
 /// Looks at the cell at a word and at its links, and answers the word after them.
 fn check_cell<B: Book>(book: &B, bytes: &[u8], head: Head, at: u32) -> Result<u32, FileFault>
     requires { at < 2 ^ 16 }
-    ensures { CellChecked (meaning book.now) bytes.now head at result }
+    ensures { CellChecked (B.meaning book.now) bytes.now head at result }
 {
     let cell = cell_at(book, bytes, at)?;
     let next = at + (cell.arity as u32 + 2);
@@ -91,8 +91,8 @@ fn check_cell<B: Book>(book: &B, bytes: &[u8], head: Head, at: u32) -> Result<u3
 
 /// Looks at every word after the first two, and answers the word at which each cell begins.
 fn find_cells<B: Book>(book: &B, bytes: &[u8], head: Head) -> Result<[u16; 1024], FileFault>
-    requires { Headed (meaning book.now) bytes.now head.ends head.cells head.loops }
-    ensures { WordsRead (meaning book.now) bytes.now head result }
+    requires { Headed (B.meaning book.now) bytes.now head.ends head.cells head.loops }
+    ensures { WordsRead (B.meaning book.now) bytes.now head result }
 {
     let mut at = 2 + head.ends as u32;
     check_links(bytes, head, 2, at)?;

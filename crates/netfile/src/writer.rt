@@ -17,8 +17,8 @@ pub const FILE_ROOM: usize = 16_648;
 /// Writes the file of the table's net to the front of the buffer, and answers its length in bytes.
 /// Refuses a buffer under 16,648 bytes, whatever the net's size, and then changes no byte.
 pub fn write<B: Book>(book: &B, table: &Table, out: &mut [u8]) -> Result<usize, FileFault>
-    ensures written { Written (meaning book.now) table.now out.old result out.new }
-    ensures tells { Tells (meaning book.now) table.now }
+    ensures written { Written (B.meaning book.now) table.now out.old result out.new }
+    ensures tells { Tells (B.meaning book.now) table.now }
 {
     if out.len() < FILE_ROOM {
         return Err(FileFault::NoRoom);

@@ -27,8 +27,8 @@ returns-then-not-settle c =
     c.loop-h.h (pairs c.loop-h.m) c.loop-h.invariant (pairs c.settle.new.m) c.loop-h-test.true
     (subst (λ (z : Bool). Settles (rows c.args.a.now) (rows c.args.b.now) c.loop-h.h (pairs c.loop-h.m) (pairs c.settle.new.m) z) c.if-not-settle.true c.settle.ensures)
 
-pub overflow-add-h : goal.overflow-add-h
-overflow-add-h c = let z = few_pairs_lem c.args.a.now c.args.b.now (pairs c.loop-h.m) c.loop-h.invariant.good in omega arith
+pub overflow_add-h : goal.overflow_add-h
+overflow_add-h c = let z = few_pairs_lem c.args.a.now c.args.b.now (pairs c.loop-h.m) c.loop-h.invariant.good in omega arith
 
 pub loop-h-smaller : goal.loop-h-smaller
 loop-h-smaller c = let z = few_pairs_lem c.args.a.now c.args.b.now (pairs c.loop-h.m) c.loop-h.invariant.good in omega arith

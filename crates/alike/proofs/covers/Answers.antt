@@ -5,10 +5,10 @@ use Rattle.pairing.proofs.Steps.{their_free, their_pair}
 use Rattle.alike.specs.Pairings.{rows, pairs}
 use Rattle.alike.proofs.Graphs.{within}
 use Rattle.alike.proofs.covers.Goals as goal
-use Rattle.alike.proofs.covers.Goals.{else-kind-ne0-via-then-kind-ne0+else-is-none, else-kind-ne0-via-else-kind-ne0}
+use Rattle.alike.proofs.covers.Goals.{else-kind-ne0-via-then-kind-ne0+else-is_none, else-kind-ne0-via-else-kind-ne0}
 
-pub find-theirs-requires : goal.find-theirs-requires
-find-theirs-requires c = (c.requires.few, omega arith)
+pub find_theirs-requires : goal.find_theirs-requires
+find_theirs-requires c = (c.requires.few, omega arith)
 
 pub returns : goal.returns
 returns c = record {
@@ -20,17 +20,17 @@ pub loop-q-preserved : goal.loop-q-preserved
 loop-q-preserved c =
     let P : ℕ → Type 0 = λ x. (rows c.args.b.now).kind x ≢ 0 → Theirs (pairs c.args.m.now) x in
     let here : P c.loop-q.q = elim c.else-kind-ne0.branch [
-      | else-kind-ne0-via-then-kind-ne0+else-is-none w ↦ λ _. their_pair (pairs c.args.m.now) c.loop-q.q w.find-theirs.result w.if-is-none.ensures w.find-theirs.ensures
+      | else-kind-ne0-via-then-kind-ne0+else-is_none w ↦ λ _. their_pair (pairs c.args.m.now) c.loop-q.q w.find_theirs.result w.if-is_none.ensures w.find_theirs.ensures
       | else-kind-ne0-via-else-kind-ne0 w ↦ λ l. absurd (l (sym c.kind.ensures ∙ w.if-kind-ne0.false))
     ] in
     below_more P c.loop-q.q c.loop-q.invariant here
 
-pub returns-then-is-none : goal.returns-then-is-none
-returns-then-is-none c = record {
+pub returns-then-is_none : goal.returns-then-is_none
+returns-then-is_none c = record {
   yes = λ e. absurd (true≢false (sym e));
   no = λ _. (
     c.loop-q.q,
     (λ e. c.if-kind-ne0.true (c.kind.ensures ∙ e)),
-    their_free (pairs c.args.m.now) c.loop-q.q c.find-theirs.result c.if-is-none.ensures c.find-theirs.ensures c.requires.seats,
+    their_free (pairs c.args.m.now) c.loop-q.q c.find_theirs.result c.if-is_none.ensures c.find_theirs.ensures c.requires.seats,
   );
 }

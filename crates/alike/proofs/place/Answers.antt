@@ -5,13 +5,13 @@ use Rattle.alike.specs.declared.Pairing.{Pairing}
 use Rattle.alike.specs.Pairings.{rows, pairs}
 use Rattle.alike.proofs.Graphs.{within, few_pairs_lem}
 use Rattle.alike.proofs.place.Goals as goal
-use Rattle.alike.proofs.place.Goals.{else-kind-wanted-via-then-kind-wanted+then-is-none+else-attempt, else-kind-wanted-via-then-kind-wanted+else-is-none, else-kind-wanted-via-else-kind-wanted}
+use Rattle.alike.proofs.place.Goals.{else-kind-wanted-via-then-kind-wanted+then-is_none+else-attempt, else-kind-wanted-via-then-kind-wanted+else-is_none, else-kind-wanted-via-else-kind-wanted}
 
 pub loop-q-init : goal.loop-q-init
 loop-q-init c = sought_none _ _ _ _ c.requires.good c.requires.settled
 
-pub find-theirs-requires : goal.find-theirs-requires
-find-theirs-requires c = (few_pairs_lem c.args.a.now c.args.b.now (pairs c.loop-q.m) c.loop-q.invariant.good, omega arith)
+pub find_theirs-requires : goal.find_theirs-requires
+find_theirs-requires c = (few_pairs_lem c.args.a.now c.args.b.now (pairs c.loop-q.m) c.loop-q.invariant.good, omega arith)
 
 pub loop-q-preserved : goal.loop-q-preserved
 loop-q-preserved c =
@@ -23,12 +23,12 @@ loop-q-preserved c =
     let fr = free_still A B c.args.p (pairs c.args.m.now) c.loop-q.q m c.loop-q.invariant l.free in
     let next = sought_more A B c.args.p (pairs c.args.m.now) c.loop-q.q m c.loop-q.invariant in
     elim c.else-kind-wanted.branch [
-      | else-kind-wanted-via-then-kind-wanted+then-is-none+else-attempt w ↦
+      | else-kind-wanted-via-then-kind-wanted+then-is_none+else-attempt w ↦
           let t = w.attempt.ensures in
           let n = t.no w.if-attempt.false in
           subst S (sym w.m-is) (next (pairs w.attempt.new.m) t.good t.settled t.grown n.0 n.1)
-      | else-kind-wanted-via-then-kind-wanted+else-is-none w ↦
-          let k = their_pair m c.loop-q.q w.find-theirs.result w.if-is-none.ensures w.find-theirs.ensures in
+      | else-kind-wanted-via-then-kind-wanted+else-is_none w ↦
+          let k = their_pair m c.loop-q.q w.find_theirs.result w.if-is_none.ensures w.find_theirs.ensures in
           subst S (sym w.m-is) (next m c.loop-q.invariant.good c.loop-q.invariant.settled (grown_refl m) refl
           (refutes_theirs A B m c.args.p c.loop-q.q c.loop-q.invariant.good l.live k.0 (k.1, k.2) fr))
       | else-kind-wanted-via-else-kind-wanted w ↦
@@ -50,7 +50,7 @@ attempt-requires c =
       loose = record { live = l.live; free = free_still (rows c.args.a.now) (rows c.args.b.now) c.args.p (pairs c.args.m.now) c.loop-q.q m c.loop-q.invariant l.free };
       fresh = record {
         kind = sym c.kind.ensures ∙ c.if-kind-wanted.true ∙ c.kind-wanted.ensures;
-        free = their_free m c.loop-q.q c.find-theirs.result c.if-is-none.ensures c.find-theirs.ensures (λ k h. (c.loop-q.invariant.good.places k h).1);
+        free = their_free m c.loop-q.q c.find_theirs.result c.if-is_none.ensures c.find_theirs.ensures (λ k h. (c.loop-q.invariant.good.places k h).1);
       };
     }
 

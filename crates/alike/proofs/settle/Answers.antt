@@ -4,8 +4,8 @@ use Rattle.alike.specs.Pairings.{rows, pairs, item}
 use Rattle.alike.proofs.Graphs.{sound_rows, few_pairs_lem, our_row, their_row}
 use Rattle.alike.proofs.settle.Goals as goal
 
-pub offset-bounds-m-h : goal.offset-bounds-m-h
-offset-bounds-m-h c =
+pub offset_bounds-m-h : goal.offset_bounds-m-h
+offset_bounds-m-h c =
     let z = few_pairs_lem c.args.a.now c.args.b.now (pairs c.args.m.now) c.requires.good in
     let y : c.args.h < c.args.m.now.count = c.requires.below in
     omega arith

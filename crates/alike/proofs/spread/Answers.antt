@@ -5,13 +5,13 @@ use Rattle.alike.specs.declared.Pairing.{Pairing}
 use Rattle.alike.specs.Pairings.{rows, pairs}
 use Rattle.alike.proofs.Graphs.{within, few_pairs_lem}
 use Rattle.alike.proofs.spread.Goals as goal
-use Rattle.alike.proofs.spread.Goals.{else-kind-ne0-via-then-kind-ne0+then-is-none+else-not-place, else-kind-ne0-via-then-kind-ne0+else-is-none, else-kind-ne0-via-else-kind-ne0}
+use Rattle.alike.proofs.spread.Goals.{else-kind-ne0-via-then-kind-ne0+then-is_none+else-not-place, else-kind-ne0-via-then-kind-ne0+else-is_none, else-kind-ne0-via-else-kind-ne0}
 
 pub loop-p-init : goal.loop-p-init
 loop-p-init c = laid_none _ _ (pairs c.args.m.now) c.requires
 
-pub find-ours-requires : goal.find-ours-requires
-find-ours-requires c = (few_pairs_lem c.args.a.now c.args.b.now (pairs c.loop-p.m) c.loop-p.invariant.good, omega arith)
+pub find_ours-requires : goal.find_ours-requires
+find_ours-requires c = (few_pairs_lem c.args.a.now c.args.b.now (pairs c.loop-p.m) c.loop-p.invariant.good, omega arith)
 
 pub loop-p-preserved : goal.loop-p-preserved
 loop-p-preserved c =
@@ -20,11 +20,11 @@ loop-p-preserved c =
     let m = pairs c.loop-p.m in
     let S : Pairing → Type 0 = λ z. Laid A B (c.loop-p.p + 1) (pairs z) in
     elim c.else-kind-ne0.branch [
-      | else-kind-ne0-via-then-kind-ne0+then-is-none+else-not-place w ↦
+      | else-kind-ne0-via-then-kind-ne0+then-is_none+else-not-place w ↦
           subst S (sym w.m-is) (laid_placed A B c.loop-p.p m c.loop-p.invariant (pairs w.place.new.m)
           (subst (λ (z : Bool). Placed A B c.loop-p.p m (pairs w.place.new.m) z) w.if-not-place.false w.place.ensures))
-      | else-kind-ne0-via-then-kind-ne0+else-is-none w ↦
-          subst S (sym w.m-is) (laid_more A B c.loop-p.p m c.loop-p.invariant (λ _. our_pair m c.loop-p.p w.find-ours.result w.if-is-none.ensures w.find-ours.ensures))
+      | else-kind-ne0-via-then-kind-ne0+else-is_none w ↦
+          subst S (sym w.m-is) (laid_more A B c.loop-p.p m c.loop-p.invariant (λ _. our_pair m c.loop-p.p w.find_ours.result w.if-is_none.ensures w.find_ours.ensures))
       | else-kind-ne0-via-else-kind-ne0 w ↦
           subst S (sym w.m-is) (laid_more A B c.loop-p.p m c.loop-p.invariant (λ l. absurd (l (sym c.kind.ensures ∙ w.if-kind-ne0.false))))
     ]
@@ -38,7 +38,7 @@ place-requires c = record {
   settled = c.loop-p.invariant.settled;
   loose = record {
     live = λ e. c.if-kind-ne0.true (c.kind.ensures ∙ e);
-    free = our_free (pairs c.loop-p.m) c.loop-p.p c.find-ours.result c.if-is-none.ensures c.find-ours.ensures (λ k h. (c.loop-p.invariant.good.places k h).0);
+    free = our_free (pairs c.loop-p.m) c.loop-p.p c.find_ours.result c.if-is_none.ensures c.find_ours.ensures (λ k h. (c.loop-p.invariant.good.places k h).0);
   };
 }
 

@@ -7,7 +7,7 @@ use Rattle.netfile.proofs.build.name_links.Goals as goal
 
 pub loop-end-preserved : goal.loop-end-preserved
 loop-end-preserved g c =
-    naming_then (g.B.Book.meaning c.args.book.now) c.args.bytes.now c.args.survey.now c.loop-end.invariant c.name-link.ensures
+    naming_then (g.B.Book.meaning c.args.book.now) c.args.bytes.now c.args.survey.now c.loop-end.invariant c.name_link.ensures
     (λ x h.
     elim (cases_eq h.0 c.loop-end.end) [
       | inl e ↦ inr (h.2 ∙ ap end e)
@@ -16,7 +16,7 @@ loop-end-preserved g c =
 
 pub loop-cell-preserved : goal.loop-cell-preserved
 loop-cell-preserved g c =
-    naming_then (g.B.Book.meaning c.args.book.now) c.args.bytes.now c.args.survey.now c.loop-cell.invariant c.name-ports.ensures
+    naming_then (g.B.Book.meaning c.args.book.now) c.args.bytes.now c.args.survey.now c.loop-cell.invariant c.name_ports.ensures
     (λ x h.
     elim (cases_eq h.0 c.loop-cell.cell) [
       | inl e ↦ inr (subst (λ i. PortOf i x) e h.2)

@@ -7,7 +7,7 @@ use Rattle.netfile.proofs.build.name_ports.Goals as goal
 
 pub loop-port-preserved : goal.loop-port-preserved
 loop-port-preserved g c =
-    naming_then (g.B.Book.meaning c.args.book.now) c.args.bytes.now c.args.survey.now c.loop-port.invariant c.name-link.ensures
+    naming_then (g.B.Book.meaning c.args.book.now) c.args.bytes.now c.args.survey.now c.loop-port.invariant c.name_link.ensures
     (λ x h.
     elim (cases_eq h.0 c.loop-port.port) [
       | inl e ↦ inr (h.2 ∙ ap (port c.args.cell) e)

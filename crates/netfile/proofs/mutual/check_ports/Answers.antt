@@ -8,7 +8,7 @@ use Rattle.netfile.proofs.mutual.check_ports.Goals as goal
 pub loop-port-preserved : goal.loop-port-preserved
 loop-port-preserved g c =
     below_more (λ (j : ℕ). MutualAt (g.B.Book.meaning c.args.book.now) c.args.bytes.now c.args.survey.now.head (port c.args.cell j))
-    c.loop-port.port c.loop-port.invariant c.in_ok-check-spot.ensures
+    c.loop-port.port c.loop-port.invariant c.in_ok-check_spot.ensures
 
 pub returns : goal.returns
 returns g c j =

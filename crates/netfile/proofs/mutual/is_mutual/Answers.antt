@@ -4,19 +4,19 @@ use Rattle.netfile.proofs.Mutuals.{refuted, no_link, mutual_with, named_back, de
 use Rattle.netfile.proofs.mutual.is_mutual.Goals as goal
 
 -- the target is not there
-pub returns-in-default-word-of : goal.returns-in-default-word-of
-returns-in-default-word-of g c =
+pub returns-in_default-word_of : goal.returns-in_default-word_of
+returns-in_default-word_of g c =
     let K = g.B.Book.meaning c.args.book.now in
     refuted _
     (λ m.
     let back = (mutual_with K c.args.bytes.now c.args.survey.now.head (at c.args.spot) (at c.in-Ok.target) c.in-Ok.ensures m).1 in
-    c.in-default-word-of.ensures back.0 back.1)
+    c.in_default-word_of.ensures back.0 back.1)
 
-pub returns-in-Ok-link-at : goal.returns-in-Ok-link-at
-returns-in-Ok-link-at g c =
+pub returns-in-Ok-link_at : goal.returns-in-Ok-link_at
+returns-in-Ok-link_at g c =
     let K = g.B.Book.meaning c.args.book.now in
-    decides_mutual K c.args.bytes.now c.args.survey.now.head (at c.args.spot) (at c.in-Ok.target) (at c.in-Ok-link-at.named) _
-    c.in-Ok.ensures (λ s. false≢true (c.if-same.ensures.1 s)) c.in-Some.ensures c.in-Ok-link-at.ensures c.same-in-Ok-link-at.ensures
+    decides_mutual K c.args.bytes.now c.args.survey.now.head (at c.args.spot) (at c.in-Ok.target) (at c.in-Ok-link_at.named) _
+    c.in-Ok.ensures (λ s. false≢true (c.if-same.ensures.1 s)) c.in-Some.ensures c.in-Ok-link_at.ensures c.same-in-Ok-link_at.ensures
 
 -- the target's word names nothing
 pub returns-in-Err : goal.returns-in-Err

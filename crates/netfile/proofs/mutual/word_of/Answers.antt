@@ -4,15 +4,15 @@ use Rattle.netfile.proofs.Mutuals.{no_cell, port_word, has_port}
 use Rattle.netfile.proofs.mutual.word_of.Goals as goal
 
 -- no cell stands there
-pub returns-in-default-cell-at : goal.returns-in-default-cell-at
-returns-in-default-cell-at g c =
+pub returns-in_default-cell_at : goal.returns-in_default-cell_at
+returns-in_default-cell_at g c =
     let K = g.B.Book.meaning c.args.book.now in
     let bs = c.args.bytes.now in
     let s = c.args.survey.now in
     rw c.in-Port.is
     (λ w due.
     let p = has_port K bs s.head s.starts c.requires c.in-Port.cell c.in-Port.port due in
-    no_cell K bs _ c.in-default-cell-at.field-0 c.in-default-cell-at.ensures p.0 p.1)
+    no_cell K bs _ c.in_default-cell_at.field-0 c.in_default-cell_at.ensures p.0 p.1)
 
 pub returns-then-port-found : goal.returns-then-port-found
 returns-then-port-found g c =

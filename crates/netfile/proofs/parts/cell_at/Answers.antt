@@ -3,8 +3,8 @@ use Rattle.netfile.specs.Words.{cell_word}
 use Rattle.netfile.proofs.parts.cell_at.Goals as goal
 
 -- the word is no cell word: the book has no kind past 63
-pub returns-in-default-decode-cell : goal.returns-in-default-decode-cell
-returns-in-default-decode-cell g c = (
+pub returns-in_default-decode_cell : goal.returns-in_default-decode_cell
+returns-in_default-decode_cell g c = (
   refl,
   c.in-Some.ensures.0,
   λ a is.
@@ -13,5 +13,5 @@ returns-in-default-decode-cell g c = (
       let here = c.in-Some.ensures.1 in
       let word = is.1.1 in
       let same : c.in-Some.word ≡ cell_word k = cc in
-      c.in-default-decode-cell.ensures k few same,
+      c.in_default-decode_cell.ensures k few same,
 )

@@ -5,8 +5,8 @@ use Rattle.netfile.proofs.Verdicts.{right-length}
 use Rattle.netfile.proofs.parts.read_head.Goals as goal
 
 -- word 0 is wrong
-pub returns-in-default : goal.returns-in-default
-returns-in-default g c = (
+pub returns-in_default : goal.returns-in_default
+returns-in_default g c = (
   right-length c.args.bytes.now c.if-bytes-lt8.false c.if-bytes-ne0.false,
   zeroth
       (λ e n h.
@@ -14,12 +14,12 @@ returns-in-default g c = (
       let here = c.word.ensures in
       let is = h.is in
       let same : c.word.result ≡ header c.number.result e n = cc in
-      c.in-default.ensures e n h.ends h.cells same),
+      c.in_default.ensures e n h.ends h.cells same),
 )
 
 -- word 1 is wrong
-pub returns-in-default-decode-loops : goal.returns-in-default-decode-loops
-returns-in-default-decode-loops g c = (
+pub returns-in_default-decode_loops : goal.returns-in_default-decode_loops
+returns-in_default-decode_loops g c = (
   right-length c.args.bytes.now c.if-bytes-lt8.false c.if-bytes-ne0.false,
   first
       (let number = c.number.ensures in

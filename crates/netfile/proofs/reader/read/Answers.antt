@@ -20,26 +20,26 @@ returns-in_err-draft g c =
     let p = err_from_is_err_and c.from_residual-in_err-draft.result c.from_residual-in_err-draft.ensures.1 in
     record { answer = rw (p.1, p.2) tt; one = c.in_ok-survey.ensures.one }
 
-pub add-cells-requires : goal.add-cells-requires
-add-cells-requires g c = record {
+pub add_cells-requires : goal.add_cells-requires
+add_cells-requires g c = record {
   sound = c.in_ok-survey.ensures.answer;
   before = begun_none (g.B.Book.meaning c.args.book.now) c.args.bytes.now c.in_ok-survey.survey _ c.in_ok-draft.ensures;
 }
 
-pub name-links-requires : goal.name-links-requires
-name-links-requires g c = record { sound = c.in_ok-survey.ensures.answer; before = c.add-cells.ensures }
+pub name_links-requires : goal.name_links-requires
+name_links-requires g c = record { sound = c.in_ok-survey.ensures.answer; before = c.add_cells.ensures }
 
 -- every link is named, and all are mutual
 pub unreachable-requires : goal.unreachable-requires
 unreachable-requires g c =
     no_fault (g.B.Book.meaning c.args.book.now) c.args.bytes.now c.in_ok-survey.survey c.in_ok-survey.ensures.answer _
-    c.name_links_lem.ensures.celled (λ x. c.name_links_lem.ensures.named x tt) (at c.in-Err.field-0) c.in-Err.ensures.0
+    c.name_links.ensures.celled (λ x. c.name_links.ensures.named x tt) (at c.in-Err.field-0) c.in-Err.ensures.0
 
 pub returns : goal.returns
 returns g c =
     let survey = c.in_ok-survey.ensures in
     record {
       answer = read_as (g.B.Book.meaning c.args.book.now) c.args.bytes.now c.in_ok-survey.survey survey.answer _
-          c.name_links_lem.ensures.celled (λ x. c.name_links_lem.ensures.named x tt) (λ i. omega (arith, c.type-inv.bytes i)) c.in-Ok.table c.in-Ok.ensures.0;
+          c.name_links.ensures.celled (λ x. c.name_links.ensures.named x tt) (λ i. omega (arith, c.type_inv.bytes i)) c.in-Ok.table c.in-Ok.ensures.0;
       one = survey.one;
     }

@@ -2,8 +2,8 @@ use Rattle.std.proofs.Common.{inr}
 use Rattle.std.proofs.lemmas.Result.{err_from_is_err_and}
 use Rattle.netfile.proofs.survey.check_cell.Goals as goal
 
-pub returns-in_err-check-links : goal.returns-in_err-check-links
-returns-in_err-check-links g c =
+pub returns-in_err-check_links : goal.returns-in_err-check_links
+returns-in_err-check_links g c =
     let p = err_from_is_err_and c.from_residual-in_err-check-links.result c.from_residual-in_err-check-links.ensures.1 in
     let cell = c.in_ok-cell.cell in
     let is = c.in_ok-cell.ensures in

@@ -10,6 +10,6 @@ loop-at-preserved c w low high =
     let h = c.args.head in
     let P : ℕ → Type 0 = λ n. (y : Spot) × Names c.args.bytes.now h.ends h.cells n y in
     elim (cases_eq w c.loop-at.at) [
-      | inl s ↦ subst P (sym s) (at c.in_ok-link-at.field-0, c.in_ok-link-at.ensures)
+      | inl s ↦ subst P (sym s) (at c.in_ok-link_at.field-0, c.in_ok-link_at.ensures)
       | inr n ↦ c.loop-at.invariant w low (omega arith)
     ]

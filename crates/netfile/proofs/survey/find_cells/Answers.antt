@@ -3,21 +3,21 @@ use Rattle.std.proofs.lemmas.Result.{err_from_is_err_and}
 use Rattle.netfile.proofs.Verdicts.{Reached, ends_fault, reached_none, reached_more, reached_fault, reached_all, left_over}
 use Rattle.netfile.proofs.survey.find_cells.Goals as goal
 
-pub returns-in_err-check-links : goal.returns-in_err-check-links
-returns-in_err-check-links g c =
+pub returns-in_err-check_links : goal.returns-in_err-check_links
+returns-in_err-check_links g c =
     let p = err_from_is_err_and c.from_residual.result c.from_residual.ensures.1 in
     rw (p.1, p.2)
-    (ends_fault (g.B.Book.meaning c.args.book.now) c.args.bytes.now c.args.head c.requires _ c.in_err-check-links.ensures)
+    (ends_fault (g.B.Book.meaning c.args.book.now) c.args.bytes.now c.args.head c.requires _ c.in_err-check_links.ensures)
 
 pub loop-i-init : goal.loop-i-init
 loop-i-init g c =
-    reached_none (g.B.Book.meaning c.args.book.now) c.args.bytes.now c.args.head c.requires _ refl c.in_ok-check-links.ensures
+    reached_none (g.B.Book.meaning c.args.book.now) c.args.bytes.now c.args.head c.requires _ refl c.in_ok-check_links.ensures
 
-pub overflow-cast-starts : goal.overflow-cast-starts
-overflow-cast-starts g c = omega (arith, c.loop-i.invariant.near, c.args.head.small)
+pub overflow_cast-starts : goal.overflow_cast-starts
+overflow_cast-starts g c = omega (arith, c.loop-i.invariant.near, c.args.head.small)
 
-pub check-cell-requires : goal.check-cell-requires
-check-cell-requires g c = omega (arith, c.loop-i.invariant.near, c.args.head.small)
+pub check_cell-requires : goal.check_cell-requires
+check_cell-requires g c = omega (arith, c.loop-i.invariant.near, c.args.head.small)
 
 pub returns-in_err-at : goal.returns-in_err-at
 returns-in_err-at g c =

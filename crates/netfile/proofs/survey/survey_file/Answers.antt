@@ -8,7 +8,7 @@ returns-in_err-head g c =
     let p = err_from_is_err_and c.from_residual.result c.from_residual.ensures.1 in
     record {
       answer = rw (p.1, p.2) c.in_err-head.ensures;
-      one = one_answer (g.B.Book.meaning c.args.book.now) (g.met.B.Book.lawful c.args.book.now) c.args.bytes.now (λ i. omega (arith, c.type-inv.bytes i));
+      one = one_answer (g.B.Book.meaning c.args.book.now) (g.met.B.Book.lawful c.args.book.now) c.args.bytes.now (λ i. omega (arith, c.type_inv.bytes i));
     }
 
 pub returns-in_err-starts : goal.returns-in_err-starts
@@ -16,15 +16,15 @@ returns-in_err-starts g c =
     let p = err_from_is_err_and c.from_residual-in_err-starts.result c.from_residual-in_err-starts.ensures.1 in
     record {
       answer = rw (p.1, p.2) c.in_err-starts.ensures;
-      one = one_answer (g.B.Book.meaning c.args.book.now) (g.met.B.Book.lawful c.args.book.now) c.args.bytes.now (λ i. omega (arith, c.type-inv.bytes i));
+      one = one_answer (g.B.Book.meaning c.args.book.now) (g.met.B.Book.lawful c.args.book.now) c.args.bytes.now (λ i. omega (arith, c.type_inv.bytes i));
     }
 
-pub returns-in_err-check-mutual : goal.returns-in_err-check-mutual
-returns-in_err-check-mutual g c =
+pub returns-in_err-check_mutual : goal.returns-in_err-check_mutual
+returns-in_err-check_mutual g c =
     let p = err_from_is_err_and c.from_residual-in_err-check-mutual.result c.from_residual-in_err-check-mutual.ensures.1 in
     record {
       answer = rw (p.1, p.2) c.in_err-check-mutual.ensures;
-      one = one_answer (g.B.Book.meaning c.args.book.now) (g.met.B.Book.lawful c.args.book.now) c.args.bytes.now (λ i. omega (arith, c.type-inv.bytes i));
+      one = one_answer (g.B.Book.meaning c.args.book.now) (g.met.B.Book.lawful c.args.book.now) c.args.bytes.now (λ i. omega (arith, c.type_inv.bytes i));
     }
 
 pub returns : goal.returns
@@ -32,11 +32,11 @@ returns g c =
     let laid = c.in_ok-starts.ensures in
     record {
       answer = record {
-        right = record { headed = c.in_ok-head.ensures; whole = laid.whole; links = c.in_ok-check-mutual.ensures };
+        right = record { headed = c.in_ok-head.ensures; whole = laid.whole; links = c.in_ok-check_mutual.ensures };
         starts = laid.begins;
       };
-      one = one_answer (g.B.Book.meaning c.args.book.now) (g.met.B.Book.lawful c.args.book.now) c.args.bytes.now (λ i. omega (arith, c.type-inv.bytes i));
+      one = one_answer (g.B.Book.meaning c.args.book.now) (g.met.B.Book.lawful c.args.book.now) c.args.bytes.now (λ i. omega (arith, c.type_inv.bytes i));
     }
 
-pub check-mutual-requires : goal.check-mutual-requires
-check-mutual-requires g c = record { headed = c.in_ok-head.ensures; laid = c.in_ok-starts.ensures }
+pub check_mutual-requires : goal.check_mutual-requires
+check_mutual-requires g c = record { headed = c.in_ok-head.ensures; laid = c.in_ok-starts.ensures }

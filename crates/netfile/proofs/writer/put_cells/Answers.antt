@@ -8,8 +8,8 @@ use Rattle.netfile.proofs.writer.put_cells.Goals as goal
 pub loop-place-init : goal.loop-place-init
 loop-place-init c = put_no_pieces c.args.out.now c.args.start _
 
-pub put-cell-next-requires : goal.put-cell-next-requires
-put-cell-next-requires c =
+pub put_cell-next-requires : goal.put_cell-next-requires
+put_cell-next-requires c =
     let t = c.args.table.now in
     record {
       numbered = c.requires.numbered;
@@ -20,4 +20,4 @@ put-cell-next-requires c =
 pub loop-place-preserved : goal.loop-place-preserved
 loop-place-preserved c =
     let start : c.args.start ≤ length c.args.out.now = omega (arith, c.requires.fits) in
-    put_more c.loop-place.invariant start (place_words c.args.table.now) c.loop-place.place refl c.put-cell-next.ensures
+    put_more c.loop-place.invariant start (place_words c.args.table.now) c.loop-place.place refl c.put_cell-next.ensures

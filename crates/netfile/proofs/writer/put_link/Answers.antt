@@ -7,11 +7,11 @@ use Rattle.netfile.proofs.Puts.{put_same}
 use Rattle.netfile.proofs.writer.put_link.Goals as goal
 use Rattle.netfile.proofs.writer.put_link.Goals.{in-Some, in-None}
 
-pub spot-word-requires : goal.spot-word-requires
-spot-word-requires c =
+pub spot_word-requires : goal.spot_word-requires
+spot_word-requires c =
     elim c.match-mate.branch [
-      | in-Some w ↦ subst (λ y. Inside (at y)) (sym w.mate_is) (mate_inside c.args.table.now (at c.args.spot) _ w.in-Some.ensures)
-      | in-None w ↦ subst (λ y. Inside (at y)) (sym w.mate_is) c.requires.inside
+      | in-Some w ↦ subst (λ y. Inside (at y)) (sym w.mate-is) (mate_inside c.args.table.now (at c.args.spot) _ w.in-Some.ensures)
+      | in-None w ↦ subst (λ y. Inside (at y)) (sym w.mate-is) c.requires.inside
     ]
 
 pub returns : goal.returns
@@ -21,12 +21,12 @@ returns c =
     let y = c.match-mate.mate in
     let inside : Inside (at y) =
     elim c.match-mate.branch [
-      | in-Some w ↦ subst (λ y. Inside (at y)) (sym w.mate_is) (mate_inside c.args.table.now x _ w.in-Some.ensures)
-      | in-None w ↦ subst (λ y. Inside (at y)) (sym w.mate_is) c.requires.inside
+      | in-Some w ↦ subst (λ y. Inside (at y)) (sym w.mate-is) (mate_inside c.args.table.now x _ w.in-Some.ensures)
+      | in-None w ↦ subst (λ y. Inside (at y)) (sym w.mate-is) c.requires.inside
     ] in
     let mate : A.mate x ≡ at y =
     elim c.match-mate.branch [
-      | in-Some w ↦ w.in-Some.ensures.0 ∙ ap at (sym w.mate_is)
-      | in-None w ↦ w.in-None.ensures ∙ ap at (sym w.mate_is)
+      | in-Some w ↦ w.in-Some.ensures.0 ∙ ap at (sym w.mate-is)
+      | in-None w ↦ w.in-None.ensures ∙ ap at (sym w.mate-is)
     ] in
-    put_same c.put-word.ensures _ (link_is c.args.table.now c.args.numbers.now x (at y) c.spot_word_lem.result c.requires.numbered inside mate c.spot_word_lem.ensures)
+    put_same c.put_word.ensures _ (link_is c.args.table.now c.args.numbers.now x (at y) c.spot_word.result c.requires.numbered inside mate c.spot_word.ensures)

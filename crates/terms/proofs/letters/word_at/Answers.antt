@@ -6,6 +6,6 @@ pub returns : goal.returns
 returns c w h =
     let text = c.args.text.now in
     let at = c.args.at in
-    let n = run_word text at c.args.first c.run-of-len.result w c.run-of-len.ensures h in
-    let e : at + c.run-of-len.result - at ≡ length w = omega arith in
+    let n = run_word text at c.args.first c.run_of-len.result w c.run_of-len.ensures h in
+    let e : at + c.run_of-len.result - at ≡ length w = omega arith in
     ap (λ k. take k (drop at text)) e ∙ h.here

@@ -26,19 +26,19 @@ loop-i-preserved c =
 all_read : (text : List ℕ) (i : ℕ) → length text ≤ i → run (want []) (take i text) ≡ run (want []) text
 all_read text i l = ap (λ (r : List ℕ). run (want []) r) (take_all i text l)
 
-pub returns-then-is-whole : goal.returns-then-is-whole
-returns-then-is-whole c =
+pub returns-then-is_whole : goal.returns-then-is_whole
+returns-then-is_whole c =
     let text = c.args.text.now in
     let i = c.loop-i.i in
-    let w = c.if-is-whole.ensures (run (want []) (take i text)) c.loop-i.invariant.0 in
+    let w = c.if-is_whole.ensures (run (want []) (take i text)) c.loop-i.invariant.0 in
     read_whole text w.0 (ap whole (sym (all_read text i c.loop-i-test.false)) ∙ w.1)
 
-pub returns-else-is-whole : goal.returns-else-is-whole
-returns-else-is-whole c =
+pub returns-else-is_whole : goal.returns-else-is_whole
+returns-else-is_whole c =
     let text = c.args.text.now in
     let i = c.loop-i.i in
     let s = run (want []) (take i text) in
-    let w = c.if-is-whole.ensures s c.loop-i.invariant.0 in
+    let w = c.if-is_whole.ensures s c.loop-i.invariant.0 in
     let e = all_read text i c.loop-i-test.false in
     let f : run (want []) (take (length text) text) ≡ s = all_read text (length text) (omega arith) ∙ sym e in
     outside text (length text) (omega arith) (λ z. shown_live c.loop-i.scanner s c.loop-i.invariant.0 (sym f ∙ z)) (inl (refl, ap whole (sym e) ∙ w))

@@ -12,19 +12,18 @@ returns-then-len-ge63 c =
     let e = length-map xs spelled in
     ((c.in_ok-new.ensures.0, (λ h. both_ways _ c.if-has.false (c.has.ensures.1 h)), omega arith), refl)
 
-pub invariant-of-self : goal.invariant-of-self
-invariant-of-self c =
+pub invariant_of-self : goal.invariant_of-self
+invariant_of-self c =
     let xs = vec_items c.args.self.now.items in
     let x = c.in_ok-new.new in
     let is : spelled x ≡ c.args.item.now = c.in_ok-new.ensures.1 in
     let new : Has (map spelled xs) (spelled x) → ⊥ =
-    λ h. both_ways _ c.if-has.false (c.has.ensures.1 (subst (Has (map spelled xs)) is h)) in (
-      omega (arith, c.args.self.now.room, c.push-reserved.ensures.capacity),
-      (
-        omega (arith, c.push-reserved.ensures.len),
-        (subst Apart (sym c.push-reserved.ensures.items) (apart_more xs x c.args.self.now.apart new), tt),
-      ),
-    )
+    λ h. both_ways _ c.if-has.false (c.has.ensures.1 (subst (Has (map spelled xs)) is h)) in
+    record {
+      room = omega (arith, c.args.self.now.room, c.push_reserved.ensures.capacity);
+      short = omega (arith, c.push_reserved.ensures.len);
+      apart = subst Apart (sym c.push_reserved.ensures.items) (apart_more xs x c.args.self.now.apart new);
+    }
 
 pub returns : goal.returns
 returns c =
@@ -35,5 +34,5 @@ returns c =
       c.in_ok-new.ensures.0,
       (λ h. both_ways _ c.if-has.false (c.has.ensures.1 h)),
       omega arith,
-      ap (map spelled) c.push-reserved.ensures.items ∙ map_push spelled xs x ∙ ap (λ w. map spelled xs ++ w ∷ []) is,
+      ap (map spelled) c.push_reserved.ensures.items ∙ map_push spelled xs x ∙ ap (λ w. map spelled xs ++ w ∷ []) is,
     )

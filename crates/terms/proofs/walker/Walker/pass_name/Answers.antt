@@ -5,20 +5,20 @@ use Rattle.terms.specs.Tallying.{Noted}
 use Rattle.terms.proofs.Walks.{walk_name, bound_at, surrounding_places, meant_inside}
 use Rattle.terms.proofs.walker.Walker.pass_name.Goals as goal
 
-pub find-binder-requires : goal.find-binder-requires
-find-binder-requires c =
+pub find_binder-requires : goal.find_binder-requires
+find_binder-requires c =
     let s = c.args.self.now in
     let k = c.requires.comes.2 in
     let v = subst (λ z. Walks c.args.text.now c.requires.comes.0 c.args.at c.args.self.now z) k.3 c.requires.comes.3 in
     record { inside = (omega (arith, v.low, c.requires.short, v.inside, s.wide), surrounding_places c.args.text.now s.around k.0 s.inner v.held.0) }
 
-pub note-variable-requires : goal.note-variable-requires
-note-variable-requires c =
+pub note_variable-requires : goal.note_variable-requires
+note_variable-requires c =
     let s = c.args.self.now in
     let k = c.requires.comes.2 in
     let v = subst (λ z. Walks c.args.text.now c.requires.comes.0 c.args.at c.args.self.now z) k.3 c.requires.comes.3 in
     let m = c.in-Some.ensures k.0 v.held.0 in
-    let i = meant_inside c.args.text.now s.around c.word-at-name.result.now k.0 s.inner c.in-Some.binder v.held.0 m in
+    let i = meant_inside c.args.text.now s.around c.word_at-name.result.now k.0 s.inner c.in-Some.binder v.held.0 m in
     omega (arith, c.requires.short)
 
 pub returns-in-Some : goal.returns-in-Some
@@ -28,11 +28,11 @@ returns-in-Some c = record {
       let at = c.args.at in
       let v = subst (λ z. Walks c.args.text.now T c.args.at c.args.self.now z) k.3 w in
       let word = bound_at c.args.text.now T c.args.at s.around s.inner s.saved s.depth s.binders s.cells s.tally k.0 k.1 k.2 v in
-      let is : c.word-at-name.result.now ≡ k.1 = c.word-at-name.ensures k.1 word in
+      let is : c.word_at-name.result.now ≡ k.1 = c.word_at-name.ensures k.1 word in
       let means = ap (λ (n : List ℕ). meaning n k.0) (sym is) ∙ c.in-Some.ensures k.0 v.held.0 in (
         between k.2,
-        subst (λ (n : List ℕ). Walk c.args.text.now T (at + length n) s.around s.inner s.saved s.depth s.binders s.cells c.note-variable.new.self (between k.2)) (sym is)
-            (walk_name c.args.text.now T c.args.at s.around s.inner s.saved s.depth s.binders s.cells s.tally k.0 k.1 k.2 c.note-variable.new.self (subst (λ m. Noted c.args.text.now m at s.tally c.note-variable.new.self) (sym means) c.note-variable.ensures.noted) c.note-variable.ensures.counted v),
+        subst (λ (n : List ℕ). Walk c.args.text.now T (at + length n) s.around s.inner s.saved s.depth s.binders s.cells c.note_variable.new.self (between k.2)) (sym is)
+            (walk_name c.args.text.now T c.args.at s.around s.inner s.saved s.depth s.binders s.cells s.tally k.0 k.1 k.2 c.note_variable.new.self (subst (λ m. Noted c.args.text.now m at s.tally c.note_variable.new.self) (sym means) c.note_variable.ensures.noted) c.note_variable.ensures.counted v),
       );
   on =
       let s = c.args.self.now in
@@ -40,7 +40,7 @@ returns-in-Some c = record {
       let v = subst (λ z. Walks c.args.text.now c.requires.comes.0 c.args.at c.args.self.now z) k.3 c.requires.comes.3 in
       let n = bound_at c.args.text.now c.requires.comes.0 c.args.at s.around s.inner s.saved s.depth s.binders s.cells s.tally k.0 k.1 k.2 v in
       let m = n.word.some in
-      let l : length c.word-at-name.result.now ≡ length k.1 = ap length (c.word-at-name.ensures k.1 n) in
+      let l : length c.word_at-name.result.now ≡ length k.1 = ap length (c.word_at-name.ensures k.1 n) in
       omega arith;
 }
 
@@ -51,11 +51,11 @@ returns c = record {
       let at = c.args.at in
       let v = subst (λ z. Walks c.args.text.now T c.args.at c.args.self.now z) k.3 w in
       let word = bound_at c.args.text.now T c.args.at s.around s.inner s.saved s.depth s.binders s.cells s.tally k.0 k.1 k.2 v in
-      let is : c.word-at-name.result.now ≡ k.1 = c.word-at-name.ensures k.1 word in
-      let means = ap (λ (n : List ℕ). meaning n k.0) (sym is) ∙ c.in-default.ensures k.0 v.held.0 in (
+      let is : c.word_at-name.result.now ≡ k.1 = c.word_at-name.ensures k.1 word in
+      let means = ap (λ (n : List ℕ). meaning n k.0) (sym is) ∙ c.in_default.ensures k.0 v.held.0 in (
         between k.2,
-        subst (λ (n : List ℕ). Walk c.args.text.now T (at + length n) s.around s.inner s.saved s.depth s.binders s.cells c.note-unbound.new.self (between k.2)) (sym is)
-            (walk_name c.args.text.now T c.args.at s.around s.inner s.saved s.depth s.binders s.cells s.tally k.0 k.1 k.2 c.note-unbound.new.self (subst (λ m. Noted c.args.text.now m at s.tally c.note-unbound.new.self) (sym means) c.note-unbound.ensures.noted) c.note-unbound.ensures.counted v),
+        subst (λ (n : List ℕ). Walk c.args.text.now T (at + length n) s.around s.inner s.saved s.depth s.binders s.cells c.note_unbound.new.self (between k.2)) (sym is)
+            (walk_name c.args.text.now T c.args.at s.around s.inner s.saved s.depth s.binders s.cells s.tally k.0 k.1 k.2 c.note_unbound.new.self (subst (λ m. Noted c.args.text.now m at s.tally c.note_unbound.new.self) (sym means) c.note_unbound.ensures.noted) c.note_unbound.ensures.counted v),
       );
   on =
       let s = c.args.self.now in
@@ -63,6 +63,6 @@ returns c = record {
       let v = subst (λ z. Walks c.args.text.now c.requires.comes.0 c.args.at c.args.self.now z) k.3 c.requires.comes.3 in
       let n = bound_at c.args.text.now c.requires.comes.0 c.args.at s.around s.inner s.saved s.depth s.binders s.cells s.tally k.0 k.1 k.2 v in
       let m = n.word.some in
-      let l : length c.word-at-name.result.now ≡ length k.1 = ap length (c.word-at-name.ensures k.1 n) in
+      let l : length c.word_at-name.result.now ≡ length k.1 = ap length (c.word_at-name.ensures k.1 n) in
       omega arith;
 }
