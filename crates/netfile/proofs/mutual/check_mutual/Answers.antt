@@ -20,9 +20,9 @@ loop-end-preserved g c =
 
 pub returns-in_err-check_ports : goal.returns-in_err-check_ports
 returns-in_err-check_ports g c =
-    let p = err_from_is_err_and c.from_residual-in_err-check-ports.result c.from_residual-in_err-check-ports.ensures.1 in
+    let p = err_from_is_err_and c.from_residual-in_err-check_ports.result c.from_residual-in_err-check_ports.ensures.1 in
     let s = c.args.survey.now in
-    let (j, fault, ports) = c.in_err-check-ports.ensures in
+    let (j, fault, ports) = c.in_err-check_ports.ensures in
     rw (p.1, p.2)
     (first_port (g.B.Book.meaning c.args.book.now) c.args.bytes.now s.head s.starts c.requires.laid c.requires.headed
     c.loop-cell.cell j _ fault (λ x less. c.loop-end.invariant x (omega arith)) c.loop-cell.invariant ports)

@@ -31,5 +31,5 @@ returns-in_default-decode_loops g c = (
       let here = c.word-2.ensures in
       let is = h.0 in
       let same : c.word-2.result ≡ loops_word l = cc in
-      c.in-default-decode-loops.ensures l h.1 same),
+      c.in_default-decode_loops.ensures l h.1 same),
 )

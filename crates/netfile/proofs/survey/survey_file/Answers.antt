@@ -21,9 +21,9 @@ returns-in_err-starts g c =
 
 pub returns-in_err-check_mutual : goal.returns-in_err-check_mutual
 returns-in_err-check_mutual g c =
-    let p = err_from_is_err_and c.from_residual-in_err-check-mutual.result c.from_residual-in_err-check-mutual.ensures.1 in
+    let p = err_from_is_err_and c.from_residual-in_err-check_mutual.result c.from_residual-in_err-check_mutual.ensures.1 in
     record {
-      answer = rw (p.1, p.2) c.in_err-check-mutual.ensures;
+      answer = rw (p.1, p.2) c.in_err-check_mutual.ensures;
       one = one_answer (g.B.Book.meaning c.args.book.now) (g.met.B.Book.lawful c.args.book.now) c.args.bytes.now (λ i. omega (arith, c.type_inv.bytes i));
     }
 
