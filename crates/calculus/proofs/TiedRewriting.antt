@@ -6,7 +6,7 @@ use Rattle.calculus.specs.Spots.{Spot, end, port}
 use Rattle.calculus.specs.Books.{RuleBook, Laws}
 use Rattle.calculus.specs.Nets.{Net, Good, Pair}
 use Rattle.calculus.specs.Alike.{SameLinks, Alike}
-use Rattle.calculus.specs.Joining.{bonds, listed, rank, old_end, recall, tie, Tieable, TieRewriting}
+use Rattle.calculus.specs.Joining.{bonds, rank, old_end, recall, tie, Tieable, TieRewriting}
 use Rattle.calculus.proofs.Wires.{Out, Ready, run, tally}
 use Rattle.calculus.proofs.Splice.{spot, Mutual, Apart, exchange, mutual_run}
 use Rattle.calculus.proofs.Iso.{pairs, same_sym, same_run, image_live}

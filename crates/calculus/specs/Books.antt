@@ -1,6 +1,5 @@
 -- Rules and rule books as data, and the laws of a rule book. Assumes nothing.
-use Rattle.std.specs.Prelude.{◌≡◌, ℕ, ◌≤◌, ◌≢◌, ◌⊎◌, List, [], ◌∷◌, length, Some, None, Option}
-use Rattle.std.proofs.Common.{inl, inr}
+use Rattle.std.specs.Prelude.{◌≡◌, ℕ, ◌≤◌, ◌≢◌, ◌⊎◌, List, [], ◌∷◌, length, Some, Option}
 use Rattle.std.specs.List.{slice_get}
 
 -- a port that a rule speaks of: L1 and L2 are `L 1` and `L 2`, R1 and R2 likewise; port j of the new cell N1 is `N 0 j`, of N2 `N 1 j`, and so on

@@ -1,5 +1,5 @@
 -- Nets, their well-formedness, active pairs and rest. Assumes nothing.
-use Rattle.std.specs.Prelude.{◌≡◌, ℕ, ◌<◌, ◌≢◌, Some, None, Option}
+use Rattle.std.specs.Prelude.{◌≡◌, ℕ, ◌<◌, ◌≢◌, Some, Option}
 use Rattle.std.specs.List.{slice_get}
 use Rattle.calculus.specs.Spots.{Spot, end, port}
 use Rattle.calculus.specs.Books.{Rule, RuleBook, HasPort}

@@ -1,5 +1,5 @@
 -- Reaching: rewriting active pairs one by one, or none. Assumes nothing.
-use Rattle.std.specs.Prelude.{◌≡◌, ℕ, List, [], ◌∷◌}
+use Rattle.std.specs.Prelude.{ℕ, List, [], ◌∷◌}
 use Rattle.calculus.specs.Books.{RuleBook}
 use Rattle.calculus.specs.Nets.{Net, Pair}
 use Rattle.calculus.specs.Rewriting.{Rewriting}

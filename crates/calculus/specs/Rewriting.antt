@@ -1,6 +1,5 @@
 -- One rewriting: an active pair leaves, its rule's new cells enter, and the links run through. Assumes nothing.
-use Rattle.std.specs.Prelude.{◌≡◌, ℕ, ◌+◌, ◌≢◌, ◌⊎◌, List, [], ◌∷◌, length, Some, None}
-use Rattle.std.proofs.Common.{inl, inr}
+use Rattle.std.specs.Prelude.{◌≡◌, ℕ, ◌+◌, ◌≢◌, ◌⊎◌, List, length, Some, None}
 use Rattle.std.specs.List.{slice_get}
 use Rattle.calculus.specs.Spots.{Spot, end, port}
 use Rattle.calculus.specs.Books.{RuleBook, RulePort, L, R, N, Wired, Leaving, Entering}

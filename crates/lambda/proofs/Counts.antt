@@ -1,5 +1,5 @@
 -- Counting the symbols of a term, and what a step does to the counts. Assumes nothing.
-use Rattle.std.proofs.Common.{◌≡◌, ℕ, zero, suc, ◌+◌, Bool, true, false, eqb, ◌≢◌, ◌⊎◌, Some, None, Option, sym, refl, ap, ◌∙◌, subst, ap₂, inl, inr, arith}
+use Rattle.std.proofs.Common.{◌≡◌, ℕ, zero, suc, ◌+◌, Bool, true, false, eqb, ◌≢◌, ◌⊎◌, Some, None, Option, refl, ap, ap₂, inl, inr, arith}
 use Rattle.std.proofs.lemmas.Bool.{cases_eq, eq-eqb, ne_eqb}
 use Rattle.lambda.specs.Terms.{Term, var, item, lam, app, size, one, uses, stands, binds, applies, Once}
 use Rattle.lambda.specs.Reduction.{put, Beta, redex, within, left, right}

@@ -5,9 +5,9 @@ use Rattle.calculus.specs.Spots.{Spot, end, port, carry}
 use Rattle.calculus.specs.Books.{RuleBook, Laws}
 use Rattle.calculus.specs.Nets.{Net, Stands}
 use Rattle.nets.specs.Meaning.{cells_below}
-use Rattle.netfile.specs.Words.{header, cell_word, link_word, word, each}
+use Rattle.netfile.specs.Words.{cell_word, link_word, word, each}
 use Rattle.netfile.specs.Files.{arity_in, words, file, Storable}
-use Rattle.netfile.specs.Faults.{BadLength, size, IsCell, Nameable, Names, CellDue, CellDue.first, CellDue.next, LinkDue}
+use Rattle.netfile.specs.Faults.{BadLength, size, IsCell, Nameable, Names, CellDue, LinkDue}
 use Rattle.netfile.specs.Reading.{Mutual, Right}
 use Rattle.netfile.proofs.Words.{each_none, each_more, each_split, get_d_each, length_each_one, get_d_each_one, length_bytes_of, word_bytes_of}
 use Rattle.netfile.proofs.Ranks.{below-zero, below_some, below_none, below_le, below_lt, rank_injective, place, placed}

@@ -6,7 +6,7 @@ use Rattle.calculus.specs.Spots.{Spot, end, port, carry}
 use Rattle.calculus.specs.Books.{RuleBook}
 use Rattle.calculus.specs.Nets.{Net, Stands, Good}
 use Rattle.nets.specs.Meaning.{cells_below}
-use Rattle.netfile.specs.Words.{header, cell_word, link_word, word, each}
+use Rattle.netfile.specs.Words.{cell_word, link_word, word, each}
 use Rattle.netfile.specs.Files.{link_of, arity_in, words, file, Storable, Packed}
 use Rattle.netfile.specs.Faults.{size, Names, CellDue, LinkDue}
 use Rattle.netfile.specs.Reading.{Right}

@@ -8,7 +8,6 @@ use Rattle.nets.specs.Meaning.{net, OfBook}
 use Rattle.nets.specs.Drafts.{Plan, planned, Faulty, Realised}
 use Rattle.nets.proofs.Standing.{good}
 use Rattle.netfile.specs.Words.{cell_word, word}
-use Rattle.netfile.specs.Files.{file}
 use Rattle.netfile.specs.Faults.{Names, CellDue, LinkDue}
 use Rattle.netfile.specs.Reading.{Sound, ReadAs}
 use Rattle.netfile.specs.Building.{Celled, NamedAt}

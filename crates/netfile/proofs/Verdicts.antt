@@ -5,7 +5,7 @@ use Rattle.std.proofs.lemmas.Bool.{cases_order, cases_lt, cases_eq}
 use Rattle.refusals.specs.declared.faults.FileFault.{FileFault}
 use Rattle.calculus.specs.Spots.{Spot, end, port}
 use Rattle.calculus.specs.Books.{RuleBook, Laws}
-use Rattle.netfile.specs.Faults.{BadLength, size, CellDue, CellDue.first, CellDue.next, LinkDue, BadCell, BadLink, BadEnd, BadWord, First}
+use Rattle.netfile.specs.Faults.{BadLength, size, CellDue, LinkDue, BadCell, BadLink, BadEnd, BadWord, First}
 use Rattle.netfile.specs.Reading.{Headed, DueFile}
 use Rattle.netfile.specs.Passes.{NoCell, NoLink, NameAll, StopsIn, CellChecked, NamedBefore, Laid}
 use Rattle.netfile.specs.declared.head.Head.{Head}

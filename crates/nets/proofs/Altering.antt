@@ -1,6 +1,5 @@
 -- Links that show a wiring under one change of names show it under another that does the same to what is live. Assumes nothing.
-use Rattle.std.proofs.Common.{◌≡◌, ℕ, zero, suc, ◌+◌, ◌-◌, ◌*◌, ◌<◌, ◌≤◌, Bool, true, false, cond, eqb, ltb, ◌≢◌, ◌⊎◌, List, sym, refl, ap, ◌∙◌, subst, ap₂, inl, inr, arith}
-use mathlib.Core.Path.{fun_ext}
+use Rattle.std.proofs.Common.{◌≡◌, ℕ, ◌<◌, ◌≤◌, Bool, true, false, cond, ◌≢◌, ◌⊎◌, List, sym, refl, ap, ◌∙◌, subst, ap₂, inl, inr, arith}
 use Rattle.std.proofs.lemmas.Bool.{cases_eq, cases_lt}
 use Rattle.nets.specs.declared.link.Link.{Link}
 use Rattle.nets.specs.Rewiring.{Shows, trade, part, under, renamed, Parked, Cleared}
@@ -9,7 +8,7 @@ use Rattle.nets.proofs.Parking.{trade_p, trade_else, trade_twice, part_above, pa
 use Rattle.nets.proofs.Renaming.{move_twice, renamed_mutual}
 use Rattle.calculus.specs.Spots.{Spot, end, port, carry}
 use Rattle.calculus.proofs.Splice.{spot, Mutual}
-use Rattle.calculus.proofs.Beside.{Bounded, Left}
+use Rattle.calculus.proofs.Beside.{Bounded}
 
 pub alter : (xs : List Link) (m f f' g : Spot → Spot) → Mutual m → ((y : Spot) → g (g y) ≡ y) → ((x : Spot) → m x ≢ x → (f x ≡ g x) × (f' (f x) ≡ x)) →
     Shows xs (λ y. f (m (f' y))) → Shows xs (under g m)

@@ -1,6 +1,6 @@
 -- The rule's right side stands beside the net, its rows at their places. Assumes nothing.
-use Rattle.std.proofs.Common.{◌≡◌, ℕ, ◌+◌, ◌*◌, ◌<◌, ◌≤◌, ◌≢◌, ◌⊎◌, List, length, get_or, sym, refl, ap, ◌∙◌, subst, ap₂, inl, inr, arith}
-use Rattle.calculus.specs.Spots.{Spot, end, port, carry}
+use Rattle.std.proofs.Common.{◌≡◌, ℕ, ◌+◌, ◌<◌, ◌≤◌, ◌≢◌, ◌⊎◌, List, length, get_or, sym, refl, ap, ◌∙◌, subst, inl, inr, arith}
+use Rattle.calculus.specs.Spots.{Spot, port, carry}
 use Rattle.calculus.specs.Books.{RulePort, L, R, N, RuleBook, Rule, RuleLaws, Wired}
 use Rattle.calculus.proofs.Splice.{Mutual}
 use Rattle.calculus.proofs.Tests.{nth_within}
@@ -9,7 +9,7 @@ use Rattle.calculus.proofs.Wiring.{wiring, Spoken, wire_from, wiring_mutual, wir
 use Rattle.calculus.proofs.Wiring as rules
 use Rattle.nets.specs.declared.link.Link.{Link}
 use Rattle.nets.specs.Layout.{code, goal}
-use Rattle.nets.specs.Rewiring.{HasSlot, Shows, renamed, row_of, number_of, seat_of, place, Places, Laid, Room}
+use Rattle.nets.specs.Rewiring.{HasSlot, Shows, renamed, row_of, number_of, place, Places, Laid, Room}
 use Rattle.nets.proofs.Slots.{code_inj, port_slot}
 use Rattle.nets.proofs.Renaming.{swaps, swaps_else, swaps_new, swaps_twice, move_twice}
 

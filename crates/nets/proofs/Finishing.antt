@@ -2,9 +2,9 @@
 use Rattle.std.proofs.Common.{◌≡◌, ℕ, zero, suc, ◌+◌, ◌-◌, ◌*◌, ◌^◌, ◌<◌, ◌≤◌, Bool, true, false, cond, eqb, ltb, ◌≢◌, ◌⊎◌, List, [], ◌∷◌, map, length, get_or, take, Some, None, vec_items, Option, sym, refl, ap, ◌∙◌, subst, ap₂, inl, inr, arith}
 use Rattle.std.specs.List.{slice_get}
 use Rattle.std.proofs.lemmas.Bool.{cases_eq, cases_lt}
-use Rattle.calculus.specs.Spots.{Spot, end, port}
+use Rattle.calculus.specs.Spots.{Spot, port}
 use Rattle.calculus.specs.Books.{RulePort, L, R, N, Rule, RuleBook, RuleLaws, Laws, Wired, Leaving, Entering}
-use Rattle.calculus.specs.Nets.{Net, Pair, Active}
+use Rattle.calculus.specs.Nets.{Active}
 use Rattle.calculus.specs.Rewriting.{Rewriting}
 use Rattle.calculus.proofs.Tests.{nth_within}
 use Rattle.calculus.proofs.Places.{nth_some}
@@ -14,11 +14,11 @@ use Rattle.nets.specs.declared.link.Link.{Link}
 use Rattle.nets.specs.declared.fault.RewriteFault.{RewriteFault}
 use Rattle.nets.specs.declared.fault.RewriteFault.TheVariants.{NotFacing, Unfit, LoopsFull, NoPlace}
 use Rattle.nets.specs.declared.table.Table.{Table}
-use Rattle.nets.specs.Layout.{slots, code, decode, goal, bit, is_used, NamesStanding, NamesBack, NamesOther}
+use Rattle.nets.specs.Layout.{code, decode, goal, bit, is_used, NamesStanding, NamesBack, NamesOther}
 use Rattle.nets.specs.Meaning.{Content, content, kind_at, arity_at, mate_of, net_of, net, OfBook}
 use Rattle.nets.specs.Fitting.{Paired, Fitting}
-use Rattle.nets.specs.Rewrites.{Face, ports_at, Suits, Cause, Allowed, Limit, Seats, Rewrote, pair}
-use Rattle.nets.specs.Rewiring.{Whole, HasSlot, Shows, Known, row_of, number_of, seat_of, Room, place, Places, Filled, Cleared, Laid, Strung}
+use Rattle.nets.specs.Rewrites.{Face, ports_at, Suits, Cause, Allowed, Limit, Seats, pair}
+use Rattle.nets.specs.Rewiring.{Whole, Known, row_of, number_of, seat_of, Room, place, Places, Filled, Cleared, Laid, Strung}
 use Rattle.nets.specs.Seating.{Seated, Downwards}
 use Rattle.nets.proofs.Places.{bit_low}
 use Rattle.nets.proofs.Standing.{either, there, at_slot, decode_code, code_decode, code_small, mate_there, is_there, there_port, port_there, some_arity}

@@ -1,5 +1,5 @@
 -- The wires of a rule laid into the links one after the other. Assumes nothing.
-use Rattle.std.proofs.Common.{◌≡◌, ℕ, ◌+◌, ◌*◌, ◌<◌, ◌≤◌, Bool, true, false, cond, eqb, ◌≢◌, ◌⊎◌, List, length, get_or, set, Some, sym, refl, ap, ◌∙◌, subst, ap₂, inl, inr, arith, length-set}
+use Rattle.std.proofs.Common.{◌≡◌, ℕ, ◌+◌, ◌<◌, ◌≤◌, Bool, false, cond, eqb, ◌≢◌, ◌⊎◌, List, length, set, Some, sym, refl, ap, ◌∙◌, subst, ap₂, inl, inr, arith, length-set}
 use Rattle.std.specs.List.{slice_get}
 use Rattle.std.proofs.lemmas.Bool.{cases_eq}
 use Rattle.calculus.specs.Books.{RulePort, L, R, N, Wired}
@@ -7,7 +7,7 @@ use Rattle.books.specs.Tables.{port_of}
 use Rattle.nets.specs.declared.link.Link.{Link}
 use Rattle.nets.specs.Layout.{slots, slot_of, goal}
 use Rattle.nets.specs.Noting.{Tied}
-use Rattle.nets.specs.Rewiring.{Whole, Known, row_of, number_of, seat_of, Room, Laying, Laid}
+use Rattle.nets.specs.Rewiring.{Whole, Known, seat_of, Room, Laying, Laid}
 use Rattle.nets.proofs.Notings.{tied_wired, wired_tied}
 use Rattle.nets.proofs.Slots.{goal_same, goal_other, whole_set}
 

@@ -1,11 +1,11 @@
 -- A rewriting closes at most two circuits. Assumes nothing.
-use Rattle.std.proofs.Common.{◌≡◌, ℕ, ◌+◌, ◌-◌, ◌/◌, ◌%◌, ◌<◌, ◌≤◌, ◌≢◌, ◌⊎◌, List, length, Some, None, sym, refl, ap, ◌∙◌, subst, inl, inr, arith}
+use Rattle.std.proofs.Common.{◌≡◌, ℕ, ◌+◌, ◌-◌, ◌/◌, ◌%◌, ◌<◌, ◌≤◌, ◌⊎◌, List, length, Some, sym, refl, ap, ◌∙◌, subst, inl, inr, arith}
 use Rattle.std.specs.List.{slice_get}
 use Rattle.std.proofs.lemmas.Bool.{cases_eq, cases_lt}
-use Rattle.calculus.specs.Spots.{Spot, port}
-use Rattle.calculus.specs.Books.{RulePort, L, R, N, RuleBook, RuleLaws, Laws, HasPort, Wired, Leaving, Entering}
+use Rattle.calculus.specs.Spots.{port}
+use Rattle.calculus.specs.Books.{RulePort, L, R, N, RuleBook, RuleLaws, Laws, Wired, Leaving, Entering}
 use Rattle.calculus.specs.Nets.{Net, Pair}
-use Rattle.calculus.specs.Rewriting.{stand, Leads, enters, crosses, Joined, here, by_rule, Closed, Circuits, along, across}
+use Rattle.calculus.specs.Rewriting.{enters, crosses, Joined, here, by_rule, Closed, Circuits}
 use Rattle.calculus.proofs.Lawful.{wired_back}
 use Rattle.calculus.proofs.Places.{nth_some}
 use Rattle.calculus.proofs.Pigeons.{fits}

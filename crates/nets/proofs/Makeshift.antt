@@ -2,7 +2,7 @@
 use Rattle.std.proofs.Common.{◌≡◌, ℕ, zero, suc, ◌+◌, ◌-◌, ◌<◌, ◌≤◌, Bool, true, false, cond, eqb, leb, ◌≢◌, ◌⊎◌, List, [], ◌∷◌, length, get_or, Some, None, Option, sym, refl, ap, ◌∙◌, subst, inl, inr, arith}
 use Rattle.std.specs.List.{slice_get}
 use Rattle.std.proofs.lemmas.Bool.{cases_eq, cases_lt}
-use Rattle.calculus.specs.Books.{RulePort, L, R, N, Rule, RuleBook, HasPort, Leaving, Entering, RuleLaws, Laws}
+use Rattle.calculus.specs.Books.{RulePort, L, R, N, Rule, RuleBook, Leaving, Entering, RuleLaws, Laws}
 use Rattle.calculus.proofs.Tests.{nth_within}
 use Rattle.books.specs.declared.table.RuleTable.{RuleTable}
 use Rattle.books.specs.Tables.{wires_of}

@@ -12,7 +12,7 @@ use Rattle.calculus.proofs.Places.{nth_some}
 use Rattle.books.specs.declared.table.RuleTable.{RuleTable}
 use Rattle.books.specs.Tables.{port_of, wire_of, wires_of}
 use Rattle.nets.specs.Fitting.{Paired, Fitting, Told}
-use Rattle.nets.specs.Noting.{Small, note_of, Agrees, Noted, Tied, Marked, AllNoted, Full, FullRow}
+use Rattle.nets.specs.Noting.{Small, note_of, Noted, Tied, Marked, Full, FullRow}
 
 pub note_at : (row j : ℕ) → note_of (port_of row j) ≡ row * 4 + j
 note_at row j = go (cases_eq row 4) (cases_eq row 5)

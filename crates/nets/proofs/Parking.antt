@@ -1,11 +1,11 @@
 -- Ports moved one by one from row to row. Assumes nothing.
-use Rattle.std.proofs.Common.{◌≡◌, ℕ, zero, suc, ◌+◌, ◌-◌, ◌*◌, ◌<◌, ◌≤◌, Bool, true, false, cond, eqb, ltb, ◌≢◌, ◌⊎◌, List, length, get_or, set, sym, refl, ap, ◌∙◌, subst, ap₂, inl, inr, arith, length-set}
+use Rattle.std.proofs.Common.{◌≡◌, ℕ, suc, ◌+◌, ◌-◌, ◌*◌, ◌<◌, ◌≤◌, Bool, true, false, cond, ltb, ◌≢◌, ◌⊎◌, List, get_or, set, sym, refl, ap, ◌∙◌, subst, ap₂, inl, inr, arith, length-set}
 use mathlib.Core.Path.{fun_ext}
 use Rattle.std.proofs.lemmas.Bool.{cases_eq, cases_lt}
 use Rattle.nets.specs.declared.link.Link.{Link}
-use Rattle.nets.specs.Layout.{code, slots, slot_of, goal, nil}
+use Rattle.nets.specs.Layout.{code, slot_of, goal, nil}
 use Rattle.nets.specs.Rewiring.{Whole, HasSlot, Shows, trade, part, under, Parked}
-use Rattle.nets.proofs.Slots.{code_inj, port_slot, goal_same, goal_other, whole_set}
+use Rattle.nets.proofs.Slots.{code_inj, port_slot, goal_same, goal_other}
 use Rattle.calculus.specs.Spots.{Spot, end, port}
 use Rattle.calculus.proofs.Wires.{same}
 use Rattle.calculus.proofs.Splice.{spot, same_yes, same_no, Mutual}

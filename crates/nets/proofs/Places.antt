@@ -1,11 +1,10 @@
 -- The occupancy map: its bits, places and set bits. Assumes nothing.
-use Rattle.std.proofs.Common.{◌≡◌, ℕ, zero, suc, ◌+◌, ◌*◌, ◌/◌, ◌%◌, ◌^◌, ◌<◌, ◌≤◌, Bool, true, false, cond, eqb, ◌≢◌, ◌⊎◌, List, length, get_or, take, Some, None, sum_by, Option, sym, refl, ap, ◌∙◌, inl, inr, add-one, arith}
+use Rattle.std.proofs.Common.{◌≡◌, ℕ, zero, suc, ◌+◌, ◌*◌, ◌/◌, ◌%◌, ◌^◌, ◌<◌, ◌≤◌, Bool, true, false, cond, eqb, ◌≢◌, ◌⊎◌, List, length, get_or, take, Some, None, sum_by, sym, refl, ap, ◌∙◌, inl, inr, add-one, arith}
 use native.Mathlib.Nat.{zero-div}
 use lib.Count.{ones, ones_step, ones-ones}
 use Rattle.std.proofs.lemmas.List.Sums.{sum_by_more}
 use Rattle.std.proofs.lemmas.List.{get_or_past}
 use Rattle.std.proofs.lemmas.Bool.{cases_eq}
-use Rattle.calculus.specs.Nets.{Net}
 use Rattle.nets.specs.Layout.{bit}
 use Rattle.nets.specs.Meaning.{Content, kind_at, net_of, cells_below}
 

@@ -1,5 +1,5 @@
 -- Drafts: what a link at fault is by slots, and the first one. Assumes nothing.
-use Rattle.std.proofs.Common.{◌≡◌, ℕ, suc, ◌+◌, ◌*◌, ◌<◌, ◌≤◌, Bool, true, false, not, eqb, ltb, leb, ◌≢◌, ◌⊎◌, List, length, get_or, vec_items, sym, refl, ap, ◌∙◌, subst, inl, inr, arith}
+use Rattle.std.proofs.Common.{◌≡◌, ℕ, ◌<◌, ◌≤◌, Bool, true, false, not, eqb, ◌≢◌, ◌⊎◌, get_or, vec_items, sym, ap, ◌∙◌, subst, inl, inr, arith}
 use Rattle.std.proofs.lemmas.List.{get_or_read}
 use Rattle.std.proofs.lemmas.Bool.{cases_eq}
 use Rattle.calculus.specs.Spots.{Spot, end, port}
@@ -8,7 +8,7 @@ use Rattle.nets.specs.declared.link.Link.{Link}
 use Rattle.nets.specs.Layout.{slots, code, decode, goal, slot_of, nil}
 use Rattle.nets.specs.Drafts.{plan, planned, Faulty, Before}
 use Rattle.nets.specs.Inner.{Tested}
-use Rattle.nets.proofs.Standing.{either, Drawn, decode_code, code_decode, code_small}
+use Rattle.nets.proofs.Standing.{Drawn, decode_code, code_decode, code_small}
 
 module _ (d : Draft) where
   abbrev goals : ℕ → ℕ

@@ -1,5 +1,5 @@
 -- The code's steps are the rewriting. Assumes nothing.
-use Rattle.std.proofs.Common.{◌≡◌, ℕ, zero, suc, ◌+◌, ◌*◌, ◌<◌, ◌≤◌, Bool, true, false, cond, eqb, ◌≢◌, ◌⊎◌, List, [], ◌∷◌, ◌++◌, length, get_or, Some, None, Option, sym, refl, ap, ◌∙◌, subst, ap₂, inl, inr, arith}
+use Rattle.std.proofs.Common.{◌≡◌, ℕ, zero, suc, ◌+◌, ◌<◌, ◌≤◌, Bool, true, false, cond, eqb, ◌≢◌, ◌⊎◌, List, [], ◌∷◌, ◌++◌, length, get_or, Some, None, Option, sym, refl, ap, ◌∙◌, subst, ap₂, inl, inr, arith}
 use mathlib.Core.Path.{fun_ext}
 use Rattle.std.specs.List.{slice_get}
 use Rattle.std.specs.Option.{unwrap_or}
@@ -10,10 +10,10 @@ use Rattle.calculus.specs.Nets.{Net, Stands, Good, Pair, Active}
 use Rattle.calculus.specs.Alike.{SameLinks}
 use Rattle.calculus.specs.Rewriting.{Rewriting}
 use Rattle.calculus.specs.Theorems.{Free}
-use Rattle.calculus.proofs.Wires.{through, closes, run, tally, Ready}
+use Rattle.calculus.proofs.Wires.{through, run, tally, Ready}
 use Rattle.calculus.proofs.Splice.{spot, at_a, at_b, was_live, keeps_live, Mutual, keeps_mutual, ready_through, mutual_run, closes_yes}
-use Rattle.calculus.proofs.Iso.{pairs, same_run, same_through, image_ready, image_live}
-use Rattle.calculus.proofs.Beside.{Bounded, beside, on_left, beside_through}
+use Rattle.calculus.proofs.Iso.{pairs, same_run, same_through, image_ready}
+use Rattle.calculus.proofs.Beside.{Bounded, on_left, beside_through}
 use Rattle.calculus.proofs.Plugs.{wires, plugs, ready_front}
 use Rattle.calculus.proofs.Wiring.{wiring, ports, wiring_mutual, wiring_ports}
 use Rattle.calculus.proofs.Rewrite.{Sized, Facing, facing, rewrite, laid, bounded, rule_laws, two, left_small, right_small, left_linked, right_linked, laid_mutual, plugs_ready, after_mate, after_loops, cells}
@@ -22,15 +22,14 @@ use Rattle.calculus.proofs.Carried.{run-append, tally_append}
 use Rattle.calculus.proofs.Places.{nth_some, settled, settled_alike, settled_good, settles_as, to_low, to_new}
 use Rattle.calculus.proofs.Places as places
 use Rattle.calculus.proofs.Tests.{nth_within}
-use Rattle.calculus.proofs.Renumber.{loops_kept}
 use Rattle.nets.specs.declared.link.Link.{Link}
-use Rattle.nets.specs.Layout.{code, decode, goal, bit}
+use Rattle.nets.specs.Layout.{decode, bit}
 use Rattle.nets.specs.Meaning.{Content, mate_of}
-use Rattle.nets.specs.Rewiring.{Whole, Shows, renamed, place, Places, Room, Laid, Strung, Cleared}
-use Rattle.nets.proofs.Standing.{either, there, mate_there, mate_absent, is_there, port_there, there_port, end_there, there_end, decode_code}
+use Rattle.nets.specs.Rewiring.{Shows, renamed, place, Places, Room, Laid, Strung, Cleared}
+use Rattle.nets.proofs.Standing.{either, there, mate_there, mate_absent, is_there, port_there, there_port, end_there, there_end}
 use Rattle.nets.proofs.Slots.{same_live}
 use Rattle.nets.proofs.Splicing.{closed}
-use Rattle.nets.proofs.Renaming.{swaps, swaps_else, swaps_new, swaps_old, swaps_twice, move_twice, renamed_mutual, renamed_same}
+use Rattle.nets.proofs.Renaming.{swaps, swaps_else, swaps_new, swaps_twice, move_twice, renamed_mutual, renamed_same}
 use Rattle.nets.proofs.Altering.{cleared}
 use Rattle.nets.proofs.Besides.{gate, stands}
 

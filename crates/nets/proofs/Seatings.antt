@@ -1,9 +1,9 @@
 -- The places that the new cells take. Assumes nothing.
-use Rattle.std.proofs.Common.{◌≡◌, ℕ, ◌+◌, ◌-◌, ◌<◌, ◌≤◌, min, max, Bool, true, false, cond, ltb, ◌≢◌, ◌⊎◌, List, length, get_or, sym, refl, ap, ◌∙◌, subst, inl, inr, arith}
+use Rattle.std.proofs.Common.{◌≡◌, ℕ, ◌+◌, ◌-◌, ◌<◌, ◌≤◌, min, max, Bool, true, false, cond, ltb, ◌≢◌, ◌⊎◌, List, length, sym, ap, ◌∙◌, subst, inl, inr, arith}
 use Rattle.std.proofs.lemmas.Bool.{cases_eq, cases_lt}
 use Rattle.nets.specs.Layout.{bit}
 use Rattle.nets.specs.Rewiring.{place, Places}
-use Rattle.nets.specs.Seating.{Flipped, FlippedIf, Taken, Seated}
+use Rattle.nets.specs.Seating.{Taken, Seated}
 use Rattle.nets.proofs.Counting.{not_flipped, is_flipped, not_taken, is_taken}
 use Rattle.nets.proofs.Renaming.{swaps, swaps_else, swaps_old}
 

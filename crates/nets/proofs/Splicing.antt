@@ -1,10 +1,10 @@
 -- The splice of two spots, in the list of links. Assumes nothing.
-use Rattle.std.proofs.Common.{◌≡◌, ℕ, ◌+◌, ◌*◌, ◌<◌, ◌≤◌, ◌≢◌, ◌⊎◌, List, length, get_or, set, sym, refl, ap, ◌∙◌, subst, ap₂, inl, inr, arith, length-set}
+use Rattle.std.proofs.Common.{◌≡◌, ℕ, ◌<◌, ◌≢◌, ◌⊎◌, List, length, get_or, set, sym, ap, ◌∙◌, subst, inl, inr, arith, length-set}
 use Rattle.nets.specs.declared.link.Link.{Link}
 use Rattle.nets.specs.Layout.{code, slots, slot_of, goal, nil}
 use Rattle.nets.specs.Rewiring.{Whole, HasSlot, Shows, Spliced}
 use Rattle.nets.proofs.Slots.{code_inj, goal_same, goal_other, whole_set}
-use Rattle.calculus.specs.Spots.{Spot, end, port}
+use Rattle.calculus.specs.Spots.{Spot}
 use Rattle.calculus.proofs.Wires.{through, closes}
 use Rattle.calculus.proofs.Splice.{spot, to_a, to_b, past, one_mate, Mutual, was_live, closes_yes, closes_no, closed_past}
 

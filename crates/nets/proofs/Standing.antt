@@ -1,13 +1,13 @@
 -- Slots and spots, and what a table's links are by spots. Assumes nothing.
-use Rattle.std.proofs.Common.{◌≡◌, ℕ, suc, ◌+◌, ◌-◌, ◌*◌, ◌/◌, ◌%◌, ◌<◌, ◌≤◌, Bool, true, false, cond, ◌&&◌, eqb, ltb, leb, ◌≢◌, ◌⊎◌, List, length, get_or, Some, None, vec_items, Option, sym, refl, ap, ◌∙◌, subst, ap₂, inl, inr, arith}
+use Rattle.std.proofs.Common.{◌≡◌, ℕ, ◌+◌, ◌-◌, ◌*◌, ◌/◌, ◌%◌, ◌<◌, ◌≤◌, Bool, true, false, cond, ◌&&◌, eqb, ltb, leb, ◌≢◌, ◌⊎◌, length, get_or, Some, None, vec_items, sym, refl, ap, ◌∙◌, ap₂, inl, inr, arith}
 use Rattle.std.proofs.lemmas.List.{get_or_read}
 use Rattle.calculus.specs.Spots.{Spot, end, port}
-use Rattle.calculus.specs.Books.{RuleBook, HasPort}
-use Rattle.calculus.specs.Nets.{Net, Stands, Good}
+use Rattle.calculus.specs.Books.{RuleBook}
+use Rattle.calculus.specs.Nets.{Stands, Good}
 use Rattle.nets.specs.declared.link.Link.{Link}
 use Rattle.nets.specs.declared.table.Table.{Table}
-use Rattle.nets.specs.Layout.{slots, code, decode, is_of_end, goal, slot_of, nil, bit, stands, is_used, NamesStanding, NamesBack, NamesOther}
-use Rattle.nets.specs.Meaning.{Content, content, kind_at, arity_at, mate_of, net_of, net, OfBook}
+use Rattle.nets.specs.Layout.{slots, code, decode, is_of_end, goal, slot_of, nil, bit, stands, is_used}
+use Rattle.nets.specs.Meaning.{Content, content, kind_at, arity_at, mate_of, net, OfBook}
 use Rattle.nets.proofs.Places.{bit_low}
 
 pub either : (b : Bool) → (b ≡ true) ⊎ (b ≡ false)

@@ -1,11 +1,11 @@
 -- Splices one after the other. Assumes nothing.
-use Rattle.std.proofs.Common.{◌≡◌, ℕ, suc, ◌+◌, ◌-◌, ◌*◌, ◌<◌, ◌≤◌, ◌≢◌, ◌⊎◌, List, sym, refl, ap, ◌∙◌, subst, ap₂, inl, inr, arith}
+use Rattle.std.proofs.Common.{◌≡◌, ℕ, suc, ◌+◌, ◌-◌, ◌*◌, ◌≢◌, List, sym, refl, subst, ap₂, arith}
 use Rattle.nets.specs.declared.link.Link.{Link}
 use Rattle.nets.specs.Rewiring.{Spliced, Strung}
-use Rattle.calculus.specs.Spots.{Spot, end, port}
-use Rattle.calculus.proofs.Wires.{through, closes, run, tally, Ready}
+use Rattle.calculus.specs.Spots.{port}
+use Rattle.calculus.proofs.Wires.{through}
 use Rattle.calculus.proofs.Plugs.{wires}
-use Rattle.calculus.proofs.Splice.{Mutual, keeps_mutual, ready_through}
+use Rattle.calculus.proofs.Splice.{keeps_mutual, ready_through}
 
 more : (xs ys zs : List Link) (p g n h k : ℕ) → Spliced xs (p * 4 + suc n) (g * 4 + suc n) ys h → Strung ys p g n zs k → Strung xs p g (suc n) zs (h + k)
 more xs ys zs p g n h k s t = record {

@@ -1,5 +1,5 @@
 -- The highest bit of the occupancy map that is not set. Assumes nothing.
-use Rattle.std.proofs.Common.{◌≡◌, ℕ, zero, suc, ◌+◌, ◌-◌, ◌*◌, ◌/◌, ◌%◌, ◌^◌, ◌<◌, ◌≤◌, ◌≢◌, ◌⊎◌, List, get_or, Some, sym, refl, ap, ◌∙◌, subst, ap₂, inl, inr, arith, pow_mono}
+use Rattle.std.proofs.Common.{◌≡◌, ℕ, suc, ◌+◌, ◌-◌, ◌*◌, ◌/◌, ◌%◌, ◌^◌, ◌<◌, ◌≤◌, ◌≢◌, ◌⊎◌, List, get_or, Some, sym, refl, ap, ◌∙◌, subst, ap₂, inl, inr, arith, pow_mono}
 use lib.Count.{count_leading_zeros, leading_top}
 use Rattle.std.proofs.lemmas.Bool.{cases_eq}
 use Rattle.nets.specs.Layout.{bit}

@@ -1,6 +1,5 @@
 -- Tables in the making: cells in places 0, 1, 2 and on, and links as they are named, mutual or not. Assumes nothing.
-use Rattle.std.specs.Prelude.{◌≡◌, ℕ, ◌+◌, ◌-◌, ◌^◌, ◌<◌, min, Bool, true, false, cond, ◌&&◌, ◌≢◌, ◌⊎◌, Some, None, Ok, Err, vec_items, Option, Result, nat_le, nat_lt, slice_index}
-use Rattle.std.proofs.Common.{inl, inr}
+use Rattle.std.specs.Prelude.{◌≡◌, ℕ, ◌+◌, ◌-◌, ◌^◌, ◌<◌, min, Bool, true, false, cond, ◌&&◌, ◌≢◌, ◌⊎◌, Some, None, Ok, Err, vec_items, Result, nat_le, nat_lt, slice_index}
 use Rattle.calculus.specs.Spots.{Spot, end, port}
 use Rattle.nets.specs.declared.draft.Draft.{Draft}
 use Rattle.nets.specs.declared.spot.Spot.{Spot as Seen}

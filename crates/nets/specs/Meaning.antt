@@ -1,5 +1,5 @@
 -- The net of a table. Assumes nothing.
-use Rattle.std.specs.Prelude.{◌≡◌, ℕ, zero, suc, ◌+◌, ◌≤◌, cond, List, Some, None, vec_items, Option, ◌==◌, slice_index}
+use Rattle.std.specs.Prelude.{◌≡◌, ℕ, zero, suc, ◌+◌, cond, List, Some, None, vec_items, Option, ◌==◌, slice_index}
 use Rattle.calculus.specs.Spots.{Spot}
 use Rattle.calculus.specs.Books.{RuleBook}
 use Rattle.calculus.specs.Nets.{Net}

@@ -1,5 +1,5 @@
 -- What the private functions that test a rule's table tell each other; no public contract cites it. Assumes nothing.
-use Rattle.std.specs.Prelude.{◌≡◌, ℕ, ◌+◌, ◌*◌, ◌<◌, ◌≤◌, Bool, true, false, ◌≢◌, ◌⊎◌, List, length, Some, None, slice_index, slice_set}
+use Rattle.std.specs.Prelude.{◌≡◌, ℕ, ◌+◌, ◌*◌, ◌<◌, ◌≤◌, Bool, true, false, ◌≢◌, ◌⊎◌, List, length, Some, slice_index, slice_set}
 use Rattle.std.specs.List.{slice_get}
 use Rattle.calculus.specs.Books.{RulePort, L, R, N}
 use Rattle.books.specs.declared.table.RuleTable.{RuleTable}

@@ -1,12 +1,12 @@
 -- What the private functions of the rewrite tell each other of the links; no public contract cites it. Assumes nothing.
-use Rattle.std.specs.Prelude.{◌≡◌, ℕ, zero, suc, ◌+◌, ◌*◌, ◌<◌, ◌≤◌, Bool, true, false, cond, ◌≢◌, List, length, ◌==◌, nat_lt, slice_index}
+use Rattle.std.specs.Prelude.{◌≡◌, ℕ, ◌+◌, ◌*◌, ◌<◌, ◌≤◌, Bool, true, false, cond, ◌≢◌, List, length, ◌==◌, nat_lt, slice_index}
 use Rattle.calculus.specs.Spots.{Spot, end, port, carry}
 use Rattle.calculus.specs.Books.{RulePort, L, R, N, Wired}
 use Rattle.calculus.specs.Splicing.{through, closes, Ready}
 use Rattle.calculus.proofs.Wires.{run, tally}
 use Rattle.calculus.proofs.Plugs.{wires}
 use Rattle.nets.specs.declared.link.Link.{Link}
-use Rattle.nets.specs.Layout.{code, decode, slots, slot_of, goal}
+use Rattle.nets.specs.Layout.{code, decode, slots, goal}
 use Rattle.nets.specs.Noting.{Tied}
 
 -- every slot names a slot

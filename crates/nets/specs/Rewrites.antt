@@ -1,5 +1,5 @@
 -- Rewriting a table in place: when it is refused, and what it promises. Assumes nothing.
-use Rattle.std.specs.Prelude.{◌≡◌, ℕ, ◌+◌, ◌<◌, ◌≤◌, min, max, ◌≢◌, Some, None, Ok, Err, Result, slice_index}
+use Rattle.std.specs.Prelude.{◌≡◌, ℕ, ◌+◌, ◌<◌, ◌≤◌, ◌≢◌, Some, Ok, Err, Result, slice_index}
 use Rattle.std.specs.List.{slice_get}
 use Rattle.calculus.specs.Spots.{port}
 use Rattle.calculus.specs.Books.{Rule, RuleBook, Laws}

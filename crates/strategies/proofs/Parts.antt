@@ -1,11 +1,10 @@
 -- What a call of one of two parts does to the bag of both.
-use Rattle.std.proofs.Common.{◌≡◌, ◌+◌, ◌<◌, ◌≤◌, List, [], ◌∷◌, ◌++◌, length, Ok, Err, Result, refl, arith, length-append}
+use Rattle.std.proofs.Common.{◌≡◌, ◌<◌, List, ◌++◌, length, Ok, Err, Result, arith, length-append}
 use Rattle.std.proofs.lemmas.List.{nil_from_length}
-use Rattle.std.proofs.lemmas.List.Sorted.{IsPermutation-refl, IsPermutation-sym, IsPermutation-trans}
+use Rattle.std.proofs.lemmas.List.Sorted.{IsPermutation-sym, IsPermutation-trans}
 use Rattle.refusals.specs.declared.faults.StrategyFault.{StrategyFault}
-use Rattle.refusals.specs.declared.faults.StrategyFault.TheVariants.{Empty, Full}
 use Rattle.strategies.specs.declared.pair.Pair.{Pair}
-use Rattle.strategies.specs.Bags.{Put, Taken, Refused}
+use Rattle.strategies.specs.Bags.{Put, Taken}
 use Rattle.strategies.proofs.Shuffles.{shuffled_after, shuffled_before, shuffled_middle}
 
 pub put_first : (r : Result (Unit {0}) StrategyFault) (p : Pair) (a b c : List Pair) → length (a ++ b) < 512 → Put a p r c → Put (a ++ b) p r (c ++ b)

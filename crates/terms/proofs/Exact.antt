@@ -1,12 +1,12 @@
 -- A text that the reading takes to its end is in the grammar, and where it stops the text leaves the grammar.
-use Rattle.std.proofs.Common.{◌≡◌, ℕ, zero, suc, ◌+◌, ◌-◌, ◌<◌, ◌≤◌, Bool, true, false, cond, ◌&&◌, eqb, ltb, leb, ◌≢◌, ◌⊎◌, List, [], ◌∷◌, ◌++◌, length, get_or, take, drop, Some, None, Option, sym, refl, ap, ◌∙◌, subst, inl, inr, append_assoc, arith}
+use Rattle.std.proofs.Common.{◌≡◌, ℕ, zero, suc, ◌<◌, ◌≤◌, true, cond, ◌&&◌, eqb, ltb, ◌⊎◌, List, [], ◌∷◌, ◌++◌, length, get_or, take, Some, None, sym, refl, ap, ◌∙◌, subst, inl, inr, append_assoc, arith}
 use Rattle.std.proofs.lemmas.List.{length-append, length-take, append-nil, get_or_append_left, get_or_push, get_or-take, take-append-le, take-take}
-use Rattle.std.proofs.lemmas.Bool.{both_ways, cond_both, ltb-true, eqb-true, and_parts, cases_eq}
+use Rattle.std.proofs.lemmas.Bool.{cond_both, ltb-true, eqb-true, and_parts, cases_eq}
 use Rattle.terms.specs.Letters.{letter, small, capital, Word, Outside}
 use Rattle.terms.specs.Named.{Named, bound, item, lam, app, written, Spelt, Grammatical}
-use Rattle.terms.specs.Scanning.{Frame, function, argument, body, State, want, binder, name, thing, done, stuck, spaced, closed, ended, followed, step, run, whole}
+use Rattle.terms.specs.Scanning.{Frame, function, argument, body, State, want, binder, name, thing, done, stuck, spaced, closed, followed, step, run, whole}
 use Rattle.terms.proofs.Words.{one_letter}
-use Rattle.terms.proofs.Machine.{run-append, run_stuck, ReadTo, reads, before, SpeltAll, Part, Led, led_space, led_close, led_end}
+use Rattle.terms.proofs.Machine.{run_stuck, reads, before, SpeltAll, Part, Led, led_space, led_close, led_end}
 
 part_more : (first : ℕ) (w : List ℕ) (b : ℕ) → Part first w → length w < 8 → letter first b ≡ true → Part first (w ++ b ∷ [])
 part_more first w b p l h =

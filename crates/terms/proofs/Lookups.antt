@@ -1,10 +1,10 @@
 -- Names met on the way from the innermost abstraction outwards.
-use Rattle.std.proofs.Common.{◌≡◌, ℕ, ◌-◌, ◌<◌, ◌≤◌, Bool, true, false, ◌⊎◌, List, [], ◌∷◌, length, get_or, sym, refl, ap, ◌∙◌, subst, inl, inr, arith}
+use Rattle.std.proofs.Common.{◌≡◌, ℕ, ◌-◌, ◌≤◌, false, List, [], ◌∷◌, get_or, sym, refl, ap, ◌∙◌, subst, inl, inr, arith}
 use Rattle.std.specs.Str.{bytes_eq}
 use Rattle.std.proofs.lemmas.Slice.Eq.{bytes_eq-Decides}
 use Rattle.std.proofs.lemmas.Bool.{cond-true, cond-false, cases_Bool}
 use Rattle.terms.specs.Letters.{WordAt, small}
-use Rattle.terms.specs.Bindings.{Meaning, variable, nothing, Around, meaning}
+use Rattle.terms.specs.Bindings.{variable, nothing, Around, meaning}
 use Rattle.terms.specs.Looking.{Surrounding}
 
 differ : (w v : List ℕ) → (w ≡ v → ⊥) → bytes_eq w v ≡ false

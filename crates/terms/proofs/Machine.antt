@@ -1,11 +1,10 @@
 -- The reading byte by byte takes just the texts of the grammar.
-use Rattle.std.proofs.Common.{◌≡◌, ℕ, zero, suc, ◌+◌, ◌-◌, ◌<◌, ◌≤◌, Bool, true, false, cond, ◌&&◌, eqb, ltb, leb, ◌≢◌, ◌⊎◌, List, [], ◌∷◌, ◌++◌, length, get_or, take, drop, Some, None, Option, sym, refl, ap, ◌∙◌, subst, inl, inr, append_assoc, arith}
+use Rattle.std.proofs.Common.{◌≡◌, ℕ, suc, ◌+◌, ◌<◌, ◌≤◌, true, false, eqb, ltb, leb, List, [], ◌∷◌, ◌++◌, length, get_or, Some, sym, refl, ap, ◌∙◌, subst, append_assoc, arith}
 use Rattle.std.proofs.lemmas.List.{length-append, append-nil}
-use Rattle.std.proofs.lemmas.Bool.{both_ways, cond-true, cond-false, lt-ltb, ltb-true, eqb-true, and_parts, and_left, cases_Bool, leb-true, lt-leb, ne_eqb}
-use Rattle.terms.specs.Letters.{letter, small, capital, Word, Outside}
-use Rattle.terms.specs.Named.{Named, bound, item, lam, app, written, Spelt, Grammatical}
-use Rattle.terms.specs.Scanning.{Frame, function, argument, body, State, want, binder, name, thing, done, stuck, spaced, closed, ended, followed, step, run, whole}
-use Rattle.terms.proofs.Words.{one_letter}
+use Rattle.std.proofs.lemmas.Bool.{cond-true, cond-false, lt-ltb, and_parts, and_left, leb-true, lt-leb, ne_eqb}
+use Rattle.terms.specs.Letters.{letter, small, capital, Word}
+use Rattle.terms.specs.Named.{Named, bound, item, lam, app, written, Spelt}
+use Rattle.terms.specs.Scanning.{Frame, function, argument, body, State, want, binder, name, thing, done, stuck, spaced, closed, ended, step, run, whole}
 
 pub run-append : (s : State) (xs ys : List ℕ) → run s (xs ++ ys) ≡ run (run s xs) ys
 run-append s [] ys = refl

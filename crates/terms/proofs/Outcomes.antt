@@ -1,15 +1,15 @@
 -- What a walk that has come to the end tells of a text.
-use Rattle.std.proofs.Common.{◌≡◌, ℕ, zero, suc, ◌+◌, ◌-◌, ◌<◌, ◌≤◌, Bool, true, false, cond, ◌≢◌, ◌⊎◌, List, [], ◌∷◌, ◌++◌, length, get_or, Some, None, Decides, Option, sym, refl, ap, ◌∙◌, subst, inl, inr, arith}
+use Rattle.std.proofs.Common.{◌≡◌, ℕ, ◌+◌, ◌<◌, ◌≤◌, true, false, ◌⊎◌, List, [], ◌∷◌, ◌++◌, length, get_or, Some, None, Decides, sym, refl, ap, ◌∙◌, subst, inl, inr, arith}
 use Rattle.std.specs.List.{ContainsAt as Has}
 use Rattle.std.specs.Str.{bytes_eq}
 use Rattle.std.proofs.lemmas.List.{append-nil, length-append}
 use Rattle.std.proofs.lemmas.Bool.{both_ways, cond_both}
 use Rattle.refusals.specs.declared.faults.TextFault.{TextFault}
 use Rattle.terms.specs.Named.{Named, bound, item, lam, app, written, Spelt, cells, items}
-use Rattle.terms.specs.Bindings.{Meaning, variable, listed, nothing, Around, meaning, uses, binders, IsUnused, LinearNamed}
-use Rattle.terms.specs.Texts.{First, IsLarge, IsMisused, Reads, Due}
+use Rattle.terms.specs.Bindings.{variable, Around, meaning, uses, binders, IsUnused, LinearNamed}
+use Rattle.terms.specs.Texts.{IsMisused, Reads, Due}
 use Rattle.terms.specs.Tallying.{Uses, FaultOf, WrongAs, things, one_thing, Sums}
-use Rattle.terms.specs.Unused.{UsedBelow, UnusedFound}
+use Rattle.terms.specs.Unused.{UnusedFound}
 use Rattle.terms.specs.Walking.{Walked}
 use Rattle.terms.specs.declared.walker.Walker.{Walker}
 use Rattle.terms.proofs.Single.{has_append, has_one}

@@ -1,13 +1,13 @@
 -- For every text at most one fault is due, and none where it is a linear term within the limits.
-use Rattle.std.proofs.Common.{◌≡◌, ℕ, zero, suc, ◌+◌, ◌-◌, ◌<◌, ◌≤◌, ◌≢◌, ◌⊎◌, List, [], ◌∷◌, ◌++◌, length, get_or, sym, refl, ap, ◌∙◌, subst, inl, inr, arith}
+use Rattle.std.proofs.Common.{◌≡◌, ℕ, zero, suc, ◌+◌, ◌-◌, ◌<◌, ◌≤◌, ◌⊎◌, List, [], ◌∷◌, ◌++◌, length, get_or, sym, refl, ap, ◌∙◌, subst, inl, inr, arith}
 use Rattle.std.specs.List.{ContainsAt as Has}
 use Rattle.std.proofs.lemmas.List.{length-append, get_or_append_left, get_or-append_right}
 use Rattle.std.proofs.lemmas.Bool.{cases_lt, cases_order}
 use Rattle.refusals.specs.declared.faults.TextFault.{TextFault}
 use Rattle.terms.specs.Letters.{Outside}
 use Rattle.terms.specs.Named.{Named, bound, item, lam, app, written, Spelt, Grammatical}
-use Rattle.terms.specs.Bindings.{Meaning, variable, listed, nothing, Around, uses, IsUnbound, IsUsedAgain, IsUnused, LinearNamed}
-use Rattle.terms.specs.Texts.{most_bytes, First, IsLarge, IsMisused, Reads, OfTerm, Due, OneAnswer}
+use Rattle.terms.specs.Bindings.{Meaning, nothing, Around, uses, IsUnbound, IsUsedAgain, IsUnused, LinearNamed}
+use Rattle.terms.specs.Texts.{most_bytes, First, IsLarge, IsMisused, Reads, Due, OneAnswer}
 use Rattle.terms.proofs.Exact.{one_term_lem}
 
 pub has_append : {X : Type 0} (xs ys : List X) (x : X) → Has (xs ++ ys) x → Has xs x ⊎ Has ys x

@@ -1,8 +1,8 @@
 -- What the flags of a scanner say of the open applications.
-use Rattle.std.proofs.Common.{◌≡◌, ℕ, ◌+◌, ◌-◌, ◌<◌, ◌≤◌, Bool, true, false, ◌≢◌, ◌⊎◌, List, [], ◌∷◌, ◌++◌, length, get_or, set, Some, None, sym, refl, ap, ◌∙◌, subst, inl, inr, arith, get_or-set_other, get_or-set_same}
+use Rattle.std.proofs.Common.{◌≡◌, ℕ, ◌+◌, ◌-◌, ◌<◌, ◌≤◌, Bool, true, false, ◌≢◌, ◌⊎◌, List, [], ◌∷◌, length, get_or, set, Some, None, sym, refl, subst, inl, inr, arith, get_or-set_other, get_or-set_same}
 use Rattle.std.proofs.lemmas.Bool.{both_ways}
-use Rattle.terms.specs.Named.{Named, bound, item, lam, app}
-use Rattle.terms.specs.Scanning.{Frame, function, argument, body, State, want, done, stuck, spaced, closed, ended, Stacked}
+use Rattle.terms.specs.Named.{Named, lam, app}
+use Rattle.terms.specs.Scanning.{Frame, function, argument, body, want, done, stuck, spaced, closed, ended, Stacked}
 
 -- a flag past the stack does not matter
 pub stacked_kept : (xs : List Bool) (e : ℕ) (v : Bool) (ks : List Frame) (d : ℕ) → d ≤ e → Stacked xs d ks → Stacked (set xs e v) d ks

@@ -1,12 +1,12 @@
 -- One byte more, by a scanner and by the reading that it shows.
-use Rattle.std.proofs.Common.{◌≡◌, ℕ, ◌+◌, ◌<◌, ◌≤◌, Bool, true, false, eqb, List, [], ◌∷◌, ◌++◌, length, Some, None, sym, refl, ap, ◌∙◌, subst, arith}
+use Rattle.std.proofs.Common.{◌≡◌, ℕ, ◌+◌, ◌<◌, Bool, true, false, eqb, List, [], ◌∷◌, ◌++◌, length, sym, refl, ◌∙◌, subst, arith}
 use Rattle.std.proofs.lemmas.List.{length-append}
 use Rattle.std.proofs.lemmas.Bool.{cond-true, lt-ltb, eqb-true, eqb-false}
 use Rattle.terms.specs.declared.scanner.Mode.{Mode}
 use Rattle.terms.specs.declared.scanner.Scanner.{Scanner}
 use Rattle.terms.specs.Letters.{letter, small, capital}
 use Rattle.terms.specs.Named.{Named, bound, item}
-use Rattle.terms.specs.Scanning.{Frame, function, State, want, binder, name, thing, done, stuck, step, whole, ended, Moded, opened, Stacked, Shows, Ending}
+use Rattle.terms.specs.Scanning.{Frame, State, want, binder, name, thing, done, stuck, step, whole, ended, Moded, opened, Stacked, Shows, Ending}
 use Rattle.terms.proofs.Stacks.{ended_some, ended_none}
 
 -- what is shown of a state is shown of an equal one

@@ -1,5 +1,5 @@
 -- What one use more makes of a tally.
-use Rattle.std.proofs.Common.{◌≡◌, ℕ, suc, ◌+◌, ◌<◌, ◌≤◌, Bool, true, false, ◌≢◌, ◌⊎◌, List, [], ◌∷◌, ◌++◌, length, get_or, set, Some, None, Decides, Option, sym, refl, ap, ◌∙◌, subst, inl, inr, arith, get_or-set_other, get_or-set_same}
+use Rattle.std.proofs.Common.{◌≡◌, ℕ, ◌+◌, ◌<◌, ◌≤◌, Bool, true, false, ◌≢◌, List, [], ◌∷◌, ◌++◌, length, get_or, set, Decides, Option, sym, refl, ◌∙◌, subst, inl, inr, arith, get_or-set_other, get_or-set_same}
 use Rattle.std.specs.List.{ContainsAt as Has}
 use Rattle.std.proofs.ByRecursion.{has_append_left, has_push}
 use Rattle.std.proofs.lemmas.Bool.{cases_eq, both_ways}
@@ -7,7 +7,7 @@ use Rattle.refusals.specs.declared.faults.TextFault.{TextFault}
 use Rattle.terms.specs.Letters.{WordAt, capital}
 use Rattle.terms.specs.Bindings.{Meaning, variable, listed, nothing}
 use Rattle.terms.specs.Looking.{Places, Standing}
-use Rattle.terms.specs.Tallying.{Uses, FaultOf, Before, things, Sums, blamed}
+use Rattle.terms.specs.Tallying.{Uses, FaultOf, Before, Sums, blamed}
 use Rattle.terms.proofs.Wrongs.{old_or_new, fault_same, fault_again, fault_nothing, things_push}
 
 no : {X : Type 0} → ◌≡◌ {A = ℕ} 0 1 → X

@@ -1,16 +1,16 @@
 -- The steps of a walk over the text of a term.
-use Rattle.std.proofs.Common.{◌≡◌, ℕ, zero, suc, ◌+◌, ◌-◌, ◌<◌, ◌≤◌, Bool, true, false, ◌≢◌, ◌⊎◌, List, [], ◌∷◌, ◌++◌, length, get_or, take, drop, set, Decides, sym, refl, ap, ◌∙◌, subst, inl, inr, append_assoc, arith, get_or-set_other, get_or-set_same}
+use Rattle.std.proofs.Common.{◌≡◌, ℕ, suc, ◌+◌, ◌-◌, ◌<◌, ◌≤◌, Bool, true, false, ◌≢◌, List, [], ◌∷◌, ◌++◌, length, get_or, take, drop, set, Decides, sym, refl, ap, ◌∙◌, subst, inl, inr, append_assoc, arith, get_or-set_other, get_or-set_same}
 use Rattle.std.specs.List.{ContainsAt as Has}
 use Rattle.std.specs.Str.{bytes_eq}
 use Rattle.std.proofs.lemmas.List.{length-append, length-drop, drop-drop, drop_at, take_at, get_or-drop, get_or-append-add}
 use Rattle.std.proofs.ByRecursion.{has_append_left, has_push, has_push_cases}
 use Rattle.std.proofs.lemmas.Bool.{cases_eq, cases_Bool, cond-true, cond-false, both_ways}
 use Rattle.terms.specs.Letters.{letter, small, capital, Word, WordAt}
-use Rattle.terms.specs.Named.{Named, bound, item, lam, app, written, Spelt, cells}
-use Rattle.terms.specs.Bindings.{Meaning, variable, listed, nothing, Around, meaning, uses, binders}
+use Rattle.terms.specs.Named.{Named, bound, item, lam, app, written}
+use Rattle.terms.specs.Bindings.{Meaning, variable, listed, Around, meaning, uses, binders}
 use Rattle.terms.specs.Looking.{Surrounding}
-use Rattle.terms.specs.Tallying.{Uses, Before, Tallied, Noted}
-use Rattle.terms.specs.Walking.{Later, due, shut, outer, rest, SpeltLater, later_uses, later_binders, later_cells, Todo, reading, between, remaining, Saved, Held, Walk, Abstraction, Application, BoundName, AnItem, Argument, Closing}
+use Rattle.terms.specs.Tallying.{Uses, Before, Noted}
+use Rattle.terms.specs.Walking.{Later, due, shut, outer, rest, later_uses, later_binders, Todo, reading, between, remaining, Saved, Walk, Abstraction, Application, BoundName, AnItem, Argument, Closing}
 use Rattle.terms.proofs.Machine.{capital_sign}
 use Rattle.terms.specs.declared.tally.Tally.{Tally}
 

@@ -1,10 +1,10 @@
 -- The first wrong use, as uses are added.
-use Rattle.std.proofs.Common.{◌≡◌, ℕ, suc, ◌+◌, ◌<◌, ◌≤◌, ◌≢◌, ◌⊎◌, List, [], ◌∷◌, ◌++◌, length, get_or, Some, None, Option, sym, refl, ap, ◌∙◌, subst, inl, inr, arith}
+use Rattle.std.proofs.Common.{◌≡◌, ℕ, ◌+◌, ◌<◌, ◌≤◌, ◌≢◌, ◌⊎◌, [], ◌∷◌, ◌++◌, Some, None, Option, sym, ap, subst, inl, inr, arith}
 use Rattle.std.specs.List.{ContainsAt as Has}
 use Rattle.std.proofs.ByRecursion.{has_push_cases, has_append_left, has_push}
 use Rattle.std.proofs.lemmas.Bool.{cases_lt}
 use Rattle.refusals.specs.declared.faults.TextFault.{TextFault}
-use Rattle.terms.specs.Bindings.{Meaning, variable, listed, nothing}
+use Rattle.terms.specs.Bindings.{Meaning, nothing}
 use Rattle.terms.specs.Texts.{First}
 use Rattle.terms.specs.Tallying.{Uses, AgainIn, WrongIn, WrongAs, FaultOf, Before, things, blamed}
 

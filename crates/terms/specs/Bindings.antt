@@ -1,5 +1,5 @@
 -- What the names of a term mean, and where they stand in its text. Assumes nothing.
-use Rattle.std.specs.Prelude.{◌≡◌, ℕ, suc, ◌+◌, ◌<◌, cond, ◌≢◌, ◌⊎◌, List, [], ◌∷◌, ◌++◌, length}
+use Rattle.std.specs.Prelude.{ℕ, suc, ◌+◌, ◌<◌, cond, ◌≢◌, List, [], ◌∷◌, ◌++◌, length}
 use Rattle.std.specs.List.{ContainsAt as Has}
 use Rattle.std.specs.Str.{bytes_eq}
 use Rattle.terms.specs.Named.{Named, bound, item, lam, app, written, cells, items}

@@ -1,7 +1,7 @@
 -- How names and items are looked up: what private functions tell each other; no public contract cites it. Assumes nothing.
 use Rattle.std.specs.Prelude.{◌≡◌, ℕ, ◌-◌, ◌<◌, ◌≤◌, Bool, true, false, List, [], ◌∷◌, length, Some, None, Option, ◌≢◌, slice_index}
 use Rattle.terms.specs.Letters.{WordAt, small, capital}
-use Rattle.terms.specs.Bindings.{Meaning, variable, listed, nothing, Around}
+use Rattle.terms.specs.Bindings.{Meaning, variable, nothing, Around}
 
 -- the first n of the numbers are places of the text
 abbrev pub Places : List ℕ → List ℕ → ℕ → Type 0

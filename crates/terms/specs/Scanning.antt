@@ -1,5 +1,5 @@
 -- How a text is read byte by byte: what private functions tell each other; no public contract cites it. Assumes nothing.
-use Rattle.std.specs.Prelude.{◌≡◌, ℕ, ◌+◌, ◌-◌, ◌<◌, ◌≤◌, Bool, true, false, cond, ◌&&◌, List, [], ◌∷◌, ◌++◌, length, Some, None, Ok, Err, Option, Result, ◌==◌, nat_lt, slice_index_or}
+use Rattle.std.specs.Prelude.{◌≡◌, ℕ, ◌-◌, ◌≤◌, Bool, true, false, cond, ◌&&◌, List, [], ◌∷◌, ◌++◌, length, Some, None, Option, ◌==◌, nat_lt, slice_index_or}
 use Rattle.terms.specs.Letters.{letter, small, capital, Outside}
 use Rattle.terms.specs.Named.{Named, bound, item, lam, app, Grammatical}
 use Rattle.terms.specs.declared.scanner.Scanner.{Scanner}

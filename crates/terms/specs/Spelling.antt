@@ -1,5 +1,5 @@
 -- What an item is spelled like. Assumes nothing.
-use Rattle.std.specs.Prelude.{◌≡◌, ℕ, ◌<◌, List, [], map, length, take, ◌≢◌, slice_index_or}
+use Rattle.std.specs.Prelude.{ℕ, ◌<◌, List, [], map, length, take, ◌≢◌, slice_index_or}
 use Rattle.terms.specs.declared.item.Item.{Item}
 
 -- the letters of an item

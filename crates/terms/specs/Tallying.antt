@@ -1,5 +1,5 @@
 -- What the uses of a text's front come to: what private functions tell each other; no public contract cites it. Assumes nothing.
-use Rattle.std.specs.Prelude.{◌≡◌, ℕ, suc, ◌+◌, ◌<◌, ◌≤◌, Bool, false, ◌≢◌, ◌⊎◌, List, [], ◌∷◌, ◌++◌, length, Some, None, Decides, Option, slice_index, slice_index_or}
+use Rattle.std.specs.Prelude.{◌≡◌, ℕ, ◌+◌, ◌<◌, Bool, false, ◌≢◌, ◌⊎◌, List, [], ◌∷◌, ◌++◌, Some, None, Decides, Option, slice_index, slice_index_or}
 use Rattle.std.specs.List.{ContainsAt as Has}
 use Rattle.refusals.specs.declared.faults.TextFault.{TextFault}
 use Rattle.terms.specs.Letters.{WordAt, capital}

@@ -1,4 +1,4 @@
-use Rattle.std.proofs.Common.{◌≡◌, ℕ, ◌<◌, get_or}
+use Rattle.std.proofs.Common.{ℕ, ◌<◌, get_or}
 use Rattle.nets.specs.Noting.{FullRow}
 use Rattle.nets.proofs.fitting.is_full.Given as goal
 

@@ -1,4 +1,4 @@
-use Rattle.std.proofs.Common.{◌≡◌, ℕ, ◌+◌, ◌*◌, ◌<◌, ◌≤◌, ◌≢◌, get_or}
+use Rattle.std.proofs.Common.{ℕ, ◌+◌, ◌*◌, ◌<◌, ◌≤◌, ◌≢◌, get_or}
 use Rattle.nets.proofs.fitting.is_row_full.Given as goal
 
 abbrev pub invariant-loop-j : goal.invariant-loop-j

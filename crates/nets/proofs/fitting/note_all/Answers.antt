@@ -1,7 +1,5 @@
-use Rattle.std.proofs.Common.{◌≡◌, ℕ, true, Some, sym, refl, ap, ◌∙◌, subst, ap₂, inl, inr, arith}
+use Rattle.std.proofs.Common.{◌≡◌, ℕ, true, Some, sym, refl, ◌∙◌, subst, inl, inr, arith}
 use Rattle.books.specs.Tables.{port_of, wires_of}
-use Rattle.calculus.specs.Books.{RulePort}
-use Rattle.calculus.proofs.Lawful.{wired_back}
 use Rattle.nets.specs.Noting.{Noted, Agrees, note_of}
 use Rattle.nets.proofs.Notings.{note_at, past_none, wires_few, tied_wired, marked_more, agrees, agrees_back, other_note}
 use Rattle.std.specs.List.{slice_get}

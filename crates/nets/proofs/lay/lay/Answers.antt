@@ -1,6 +1,5 @@
-use Rattle.std.proofs.Common.{◌≡◌, ◌+◌, List, vec_items, vec_len, sym, refl, ◌∙◌, subst, inl, inr, arith}
+use Rattle.std.proofs.Common.{◌≡◌, ◌+◌, vec_items, vec_len, sym, refl, ◌∙◌, subst, inl, inr, arith}
 use Rattle.books.specs.Tables.{port_of, wires_of}
-use Rattle.nets.specs.declared.link.Link.{Link}
 use Rattle.nets.specs.Layout.{slots}
 use Rattle.nets.specs.Rewiring.{Laying}
 use Rattle.nets.proofs.Notings.{past_none, wires_few, tied_wired}

@@ -1,4 +1,4 @@
-use Rattle.std.proofs.Common.{◌≡◌, ℕ, ◌^◌, ◌<◌, ◌≤◌, ◌⊎◌, List, length, get_or, sum_by, sym, ap, ◌∙◌, subst, inl, inr, arith, rules, below_more}
+use Rattle.std.proofs.Common.{ℕ, ◌^◌, ◌<◌, ◌≤◌, ◌⊎◌, List, length, get_or, sum_by, sym, ap, ◌∙◌, subst, inl, inr, arith, rules, below_more}
 use lib.Count.{ones, ones-le}
 use Rattle.std.proofs.lemmas.List.Sums.{sum_by_more}
 use Rattle.std.proofs.lemmas.List.{take_all, get_or_past}

@@ -1,4 +1,4 @@
-use Rattle.std.proofs.Common.{◌≡◌, ◌/◌, ◌≤◌, length, sym, ap, arith, rules}
+use Rattle.std.proofs.Common.{◌/◌, ◌≤◌, length, arith}
 use Rattle.nets.proofs.Places.{bit_past}
 use Rattle.nets.proofs.occupancy.is_occupied.Goals as goal
 

@@ -1,4 +1,3 @@
-use Rattle.std.proofs.Common.{arith}
 use Rattle.nets.proofs.Counting.{fourth_room}
 use Rattle.nets.proofs.seats.take_places.Goals as goal
 

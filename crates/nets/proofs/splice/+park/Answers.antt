@@ -1,4 +1,4 @@
-use Rattle.std.proofs.Common.{◌≡◌, ℕ, ◌+◌, ◌-◌, ◌*◌, ◌<◌, List, get_or, set, vec_items, sym, refl, ap, ◌∙◌, subst, arith, rules}
+use Rattle.std.proofs.Common.{◌≡◌, ℕ, ◌+◌, ◌-◌, ◌*◌, ◌<◌, List, get_or, set, vec_items, sym, refl, subst, arith}
 use Rattle.nets.specs.declared.link.Link.{Link}
 use Rattle.nets.specs.Layout.{slot_of, nil, slots}
 use Rattle.nets.specs.Rewiring.{Parked, Whole}

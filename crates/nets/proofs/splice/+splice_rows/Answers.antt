@@ -1,4 +1,4 @@
-use Rattle.std.proofs.Common.{vec_items, rules}
+use Rattle.std.proofs.Common.{vec_items}
 use Rattle.nets.proofs.Strings.{strung_more}
 use Rattle.nets.proofs.splice.+splice_rows.Goals as goal
 

@@ -1,6 +1,6 @@
-use Rattle.std.proofs.Common.{◌≡◌, List, get_or, set, vec_items, sym, refl, ap, ◌∙◌, subst, rules}
+use Rattle.std.proofs.Common.{◌≡◌, List, get_or, set, vec_items, sym, ap, ◌∙◌, subst}
 use Rattle.nets.specs.declared.link.Link.{Link}
-use Rattle.nets.specs.Layout.{slot_of, goal as goal', nil}
+use Rattle.nets.specs.Layout.{slot_of, nil}
 use Rattle.nets.specs.Rewiring.{Spliced}
 use Rattle.nets.proofs.Splicing.{splice_closed, splice_open}
 use Rattle.nets.proofs.splice.splice.Goals as goal

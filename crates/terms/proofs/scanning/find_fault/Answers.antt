@@ -1,6 +1,6 @@
-use Rattle.std.proofs.Common.{◌≡◌, ℕ, ◌+◌, ◌<◌, ◌≤◌, List, [], ◌∷◌, ◌++◌, length, get_or, take, sym, refl, ap, ◌∙◌, subst, inl, inr, arith}
+use Rattle.std.proofs.Common.{◌≡◌, ℕ, ◌+◌, ◌≤◌, List, [], ◌∷◌, length, get_or, take, sym, refl, ap, ◌∙◌, inl, inr, arith}
 use Rattle.std.proofs.lemmas.List.{take_more, take_all}
-use Rattle.terms.specs.Scanning.{State, want, stuck, run, step, whole, Shows}
+use Rattle.terms.specs.Scanning.{want, run, step, whole}
 use Rattle.terms.proofs.Machine.{run-append}
 use Rattle.terms.proofs.Steps.{shown_live, shown_by}
 use Rattle.terms.proofs.Exact.{outside, read_whole}

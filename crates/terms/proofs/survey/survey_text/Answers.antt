@@ -1,4 +1,4 @@
-use Rattle.std.proofs.Common.{◌≡◌, ◌<◌, ◌⊎◌, inl, inr}
+use Rattle.std.proofs.Common.{◌<◌, ◌⊎◌, inl, inr}
 use Rattle.terms.proofs.Single.{one_answer}
 use Rattle.terms.proofs.Outcomes.{due_wrong, due_unused, linear, due_large, reads_all, cells_all, items_all}
 use Rattle.terms.proofs.survey.survey_text.Goals as goal

@@ -1,4 +1,4 @@
-use Rattle.std.proofs.Common.{◌≡◌, [], length, sym, refl, ap, ◌∙◌, subst, arith}
+use Rattle.std.proofs.Common.{◌≡◌, [], length, subst, arith}
 use Rattle.terms.specs.Walking.{reading, between, Walks}
 use Rattle.terms.proofs.Walks.{at_end}
 use Rattle.terms.proofs.walking.walk.Goals as goal

@@ -1,5 +1,5 @@
 use Rattle.std.proofs.Common.{◌≡◌, ℕ, vec_items, sym, ap, ◌∙◌, arith}
-use Rattle.nets.specs.Layout.{slot_of, goal as goal', code, decode}
+use Rattle.nets.specs.Layout.{goal as goal', code, decode}
 use Rattle.nets.specs.Drafts.{plan, planned}
 use Rattle.nets.specs.Views.{at}
 use Rattle.nets.proofs.Plans.{there_small, names_self, names_absent, tested_back, read_here}

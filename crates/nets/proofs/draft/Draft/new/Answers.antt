@@ -3,7 +3,7 @@ use lib.ListN.{length-replicate, get_or-replicate}
 use Rattle.std.proofs.lemmas.List.{get_or_past}
 use Rattle.std.proofs.lemmas.Result.{IfOk-from_err}
 use Rattle.nets.specs.declared.link.Link.{Link}
-use Rattle.nets.specs.Layout.{slots, slot_of, goal as goal', nil}
+use Rattle.nets.specs.Layout.{slot_of, goal as goal', nil}
 use Rattle.nets.specs.Drafts.{Begun, plan}
 use Rattle.nets.proofs.draft.Draft.new.Goals as goal
 

@@ -1,4 +1,4 @@
-use Rattle.std.proofs.Common.{refl, arith}
+use Rattle.std.proofs.Common.{refl}
 use Rattle.nets.proofs.Sealing.{names_standing, names_back, names_other, kinds_are, arities_are, links_are}
 use Rattle.nets.proofs.draft.Draft.seal.Goals as goal
 

@@ -1,4 +1,4 @@
-use Rattle.std.proofs.Common.{refl, rules}
+use Rattle.std.proofs.Common.{refl}
 use Rattle.nets.specs.Meaning.{content}
 use Rattle.nets.proofs.table.Table.cells.Goals as goal
 

@@ -1,4 +1,4 @@
-use Rattle.std.proofs.Common.{◌≡◌, sym, ap, ◌∙◌, arith}
+use Rattle.std.proofs.Common.{arith}
 use Rattle.nets.specs.Meaning.{content}
 use Rattle.nets.proofs.Counting.{at_most, cells_are}
 use Rattle.nets.proofs.table.Table.fault.Goals as goal

@@ -1,4 +1,4 @@
-use Rattle.std.proofs.Common.{◌≡◌, ℕ, Some, vec_len, sym, ap, ◌∙◌, subst, ap₂, arith}
+use Rattle.std.proofs.Common.{◌≡◌, ℕ, Some, vec_len, sym, ap, ◌∙◌, subst, arith}
 use Rattle.nets.specs.Meaning.{content}
 use Rattle.nets.specs.Fitting.{Fitting}
 use Rattle.nets.specs.Rewrites.{Suits, ports_at}

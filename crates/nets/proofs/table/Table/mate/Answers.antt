@@ -1,6 +1,6 @@
 use Rattle.std.proofs.Common.{arith}
 use Rattle.nets.specs.Views.{at}
-use Rattle.nets.proofs.Standing.{slot_small, goal_small, read_mate, mate_absent}
+use Rattle.nets.proofs.Standing.{slot_small, goal_small, read_mate}
 use Rattle.nets.proofs.table.Table.mate.Goals as goal
 
 pub index-requires : goal.index-requires

@@ -1,5 +1,4 @@
-use Rattle.std.proofs.Common.{◌≡◌, ℕ, ◌+◌, ◌-◌, ◌<◌, ◌≤◌, Bool, ltb, List, length, get_or, vec_items, vec_len, sym, refl, ap, ◌∙◌, subst, arith}
-use Rattle.books.specs.Tables.{wires_of}
+use Rattle.std.proofs.Common.{◌≡◌, ◌+◌, ◌≤◌, vec_items, vec_len, sym, refl, ◌∙◌, arith}
 use Rattle.nets.specs.Meaning.{Content, content}
 use Rattle.nets.specs.Rewiring.{Places, place}
 use Rattle.nets.specs.Rewrites.{ports_at}

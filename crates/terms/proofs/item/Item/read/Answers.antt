@@ -1,6 +1,6 @@
-use Rattle.std.proofs.Common.{◌≡◌, ℕ, ◌+◌, ◌<◌, ◌≤◌, true, ◌⊎◌, List, [], ◌∷◌, ◌++◌, length, get_or, take, sym, refl, ap, ◌∙◌, subst, inl, inr, arith}
+use Rattle.std.proofs.Common.{◌≡◌, ℕ, ◌<◌, true, ◌⊎◌, List, [], ◌∷◌, ◌++◌, length, get_or, take, sym, refl, ap, ◌∙◌, subst, inl, inr, arith}
 use Rattle.std.proofs.lemmas.List.{length-set, take_more_set, take_more, take_all, get_or-take}
-use Rattle.terms.specs.Letters.{letter, capital, Word}
+use Rattle.terms.specs.Letters.{letter, capital}
 use Rattle.terms.proofs.Words.{outside_word, whole_word}
 use Rattle.terms.proofs.item.Item.read.Goals as goal
 

@@ -1,4 +1,4 @@
-use Rattle.std.proofs.Common.{◌≡◌, ℕ, ◌∷◌, refl, ap, arith}
+use Rattle.std.proofs.Common.{ℕ, ◌∷◌, refl, ap, arith}
 use Rattle.terms.specs.Scanning.{want, function, step}
 use Rattle.terms.proofs.Stacks.{stacked_push}
 use Rattle.terms.proofs.Steps.{shown_by}

@@ -1,4 +1,4 @@
-use Rattle.std.proofs.Common.{◌≡◌, [], ◌∷◌, ◌++◌, sym, refl, ap, ◌∙◌, arith}
+use Rattle.std.proofs.Common.{[], ◌∷◌, ◌++◌, sym, ap, ◌∙◌, arith}
 use Rattle.terms.specs.declared.scanner.Mode.{Mode}
 use Rattle.terms.specs.Scanning.{binder, step}
 use Rattle.terms.proofs.Steps.{shown_by, one_more, binder_step}

@@ -1,4 +1,4 @@
-use Rattle.std.proofs.Common.{◌≡◌, ◌∷◌, sym, refl, ap, ◌∙◌, inl, inr, arith}
+use Rattle.std.proofs.Common.{refl, inl, inr, arith}
 use Rattle.terms.specs.Scanning.{done, closed}
 use Rattle.terms.proofs.Stacks.{closed_stuck, closed_goes}
 use Rattle.terms.proofs.Steps.{shown_by}

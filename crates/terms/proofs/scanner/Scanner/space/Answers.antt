@@ -1,4 +1,4 @@
-use Rattle.std.proofs.Common.{◌≡◌, ◌∷◌, sym, refl, ap, ◌∙◌, inl, inr, arith}
+use Rattle.std.proofs.Common.{◌∷◌, refl, inl, inr, arith}
 use Rattle.terms.specs.Scanning.{want, argument, spaced}
 use Rattle.terms.proofs.Stacks.{spaced_stuck, spaced_goes}
 use Rattle.terms.proofs.Steps.{shown_by}

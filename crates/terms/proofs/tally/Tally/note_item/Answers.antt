@@ -1,4 +1,4 @@
-use Rattle.std.proofs.Common.{◌≡◌, ◌+◌, Bool, true, false, [], ◌∷◌, ◌++◌, set, sym, refl, subst, arith}
+use Rattle.std.proofs.Common.{◌+◌, true, false, [], ◌∷◌, ◌++◌, set, sym, refl, subst, arith}
 use Rattle.terms.specs.Bindings.{listed}
 use Rattle.terms.specs.Looking.{Standing}
 use Rattle.terms.specs.Tallying.{Sums}

@@ -1,4 +1,4 @@
-use Rattle.std.proofs.Common.{◌≡◌, [], ◌∷◌, ◌++◌, sym, refl, subst}
+use Rattle.std.proofs.Common.{[], ◌∷◌, ◌++◌, sym, refl, subst}
 use Rattle.terms.specs.Bindings.{nothing}
 use Rattle.terms.specs.Tallying.{Sums}
 use Rattle.terms.proofs.Tallies.{sums_nothing}

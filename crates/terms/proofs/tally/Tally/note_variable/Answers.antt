@@ -1,4 +1,4 @@
-use Rattle.std.proofs.Common.{◌≡◌, true, [], ◌∷◌, ◌++◌, set, sym, refl, subst, arith}
+use Rattle.std.proofs.Common.{true, [], ◌∷◌, ◌++◌, set, sym, refl, subst, arith}
 use Rattle.terms.specs.Bindings.{variable}
 use Rattle.terms.specs.Tallying.{Sums}
 use Rattle.terms.proofs.Tallies.{sums_variable_new, sums_variable_again}

@@ -1,5 +1,5 @@
-use Rattle.std.proofs.Common.{◌≡◌, ℕ, ◌+◌, ◌-◌, ◌<◌, ◌≤◌, true, List, [], ◌∷◌, ◌++◌, length, get_or, set, sym, refl, ap, ◌∙◌, subst, arith}
-use Rattle.terms.specs.Walking.{Todo, reading, between, due, shut, Walk, Walks}
+use Rattle.std.proofs.Common.{◌∷◌, subst, arith}
+use Rattle.terms.specs.Walking.{reading, shut, Walks}
 use Rattle.terms.proofs.Walks.{walk_argument}
 use Rattle.terms.proofs.walker.Walker.enter_argument.Goals as goal
 

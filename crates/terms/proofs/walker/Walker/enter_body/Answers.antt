@@ -1,7 +1,7 @@
-use Rattle.std.proofs.Common.{◌≡◌, ℕ, ◌+◌, ◌-◌, ◌<◌, ◌≤◌, true, List, [], ◌∷◌, ◌++◌, length, get_or, set, sym, refl, ap, ◌∙◌, subst, arith}
-use Rattle.terms.specs.Walking.{Todo, reading, between, due, shut, Walk, Walks}
+use Rattle.std.proofs.Common.{◌+◌, true, ◌∷◌, set, sym, subst, arith}
+use Rattle.terms.specs.Walking.{reading, Walk, Walks}
 use Rattle.terms.proofs.Words.{run_word}
-use Rattle.terms.proofs.Walks.{walk_body, name_at, left}
+use Rattle.terms.proofs.Walks.{walk_body, name_at}
 use Rattle.terms.proofs.walker.Walker.enter_body.Goals as goal
 
 pub run_of-len-requires : goal.run_of-len-requires

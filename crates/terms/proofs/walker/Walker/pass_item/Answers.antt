@@ -1,8 +1,8 @@
-use Rattle.std.proofs.Common.{◌≡◌, ℕ, ◌+◌, ◌-◌, ◌<◌, ◌≤◌, true, List, [], ◌∷◌, ◌++◌, length, get_or, set, sym, refl, ap, ◌∙◌, subst, arith}
-use Rattle.terms.specs.Walking.{Todo, reading, between, due, shut, Walk, Walks}
+use Rattle.std.proofs.Common.{◌+◌, sym, subst, arith}
+use Rattle.terms.specs.Walking.{between, Walk, Walks}
 use Rattle.terms.proofs.Tallies.{sums_places}
 use Rattle.terms.proofs.Words.{run_word}
-use Rattle.terms.proofs.Walks.{walk_item, item_at, left}
+use Rattle.terms.proofs.Walks.{walk_item, item_at}
 use Rattle.terms.proofs.walker.Walker.pass_item.Goals as goal
 
 pub note_item-requires : goal.note_item-requires

@@ -1,5 +1,5 @@
-use Rattle.std.proofs.Common.{◌≡◌, ℕ, ◌+◌, ◌-◌, ◌<◌, ◌≤◌, true, List, [], ◌∷◌, ◌++◌, length, get_or, set, sym, refl, ap, ◌∙◌, subst, arith}
-use Rattle.terms.specs.Walking.{Todo, reading, between, due, shut, Walk, Walks}
+use Rattle.std.proofs.Common.{◌≡◌, ℕ, ◌+◌, List, length, sym, ap, ◌∙◌, subst, arith}
+use Rattle.terms.specs.Walking.{between, Walk, Walks}
 use Rattle.terms.specs.Bindings.{meaning}
 use Rattle.terms.specs.Tallying.{Noted}
 use Rattle.terms.proofs.Walks.{walk_name, bound_at, surrounding_places, meant_inside}

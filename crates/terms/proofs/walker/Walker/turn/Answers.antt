@@ -1,4 +1,4 @@
-use Rattle.std.proofs.Common.{◌≡◌, ℕ, ◌+◌, ◌-◌, ◌<◌, ◌≤◌, true, false, List, [], ◌∷◌, ◌++◌, length, get_or, set, sym, refl, ap, ◌∙◌, subst, arith}
+use Rattle.std.proofs.Common.{get_or, sym, ◌∙◌}
 use Rattle.terms.proofs.Walks.{which, as_abstraction, as_application, as_an_argument, as_closing, as_name, as_item}
 use Rattle.terms.proofs.walker.Walker.turn.Goals as goal
 
