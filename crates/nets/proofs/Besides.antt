@@ -1,5 +1,5 @@
 -- The rule's right side stands beside the net, its rows at their places. Assumes nothing.
-use Rattle.std.proofs.Common.{◌≡◌, ℕ, ◌+◌, ◌<◌, ◌≤◌, ◌≢◌, ◌⊎◌, List, length, get_or, sym, refl, ap, ◌∙◌, subst, inl, inr, arith}
+use Rattle.std.proofs.Common.{◌≡◌, ℕ, ◌+◌, ◌<◌, ◌≤◌, ◌≢◌, ◌⊎◌, List, length, sym, refl, ap, ◌∙◌, subst, inl, inr, arith}
 use Rattle.calculus.specs.Spots.{Spot, port, carry}
 use Rattle.calculus.specs.Books.{RulePort, L, R, N, RuleBook, Rule, RuleLaws, Wired}
 use Rattle.calculus.proofs.Splice.{Mutual}
@@ -9,30 +9,30 @@ use Rattle.calculus.proofs.Wiring.{wiring, Spoken, wire_from, wiring_mutual, wir
 use Rattle.calculus.proofs.Wiring as rules
 use Rattle.nets.specs.declared.link.Link.{Link}
 use Rattle.nets.specs.Layout.{code, goal}
-use Rattle.nets.specs.Rewiring.{HasSlot, Shows, renamed, row_of, number_of, place, Places, Laid, Room}
+use Rattle.nets.specs.Rewiring.{HasSlot, Shows, renamed, row_of, number_of, Places, Laid, Room}
+use Rattle.nets.specs.ByBook.{seat}
 use Rattle.nets.proofs.Slots.{code_inj, port_slot}
 use Rattle.nets.proofs.Renaming.{swaps, swaps_else, swaps_new, swaps_twice, move_twice}
 
-module _ (K : RuleBook) (w : Rule) (laws : RuleLaws K w) (n : ℕ) (ps : List ℕ) (cells : length w.cells ≡ n) (P : Places (place ps) n)
-    (g4 : get_or ps 4 0 ≡ 1028) (g5 : get_or ps 5 0 ≡ 1029) where
+module _ (K : RuleBook) (w : Rule) (laws : RuleLaws K w) (n : ℕ) (ps : List ℕ) (cells : length w.cells ≡ n) (P : Places (seat ps) n) where
   abbrev f : ℕ → ℕ
-  f = swaps (place ps) n
+  f = swaps (seat ps) n
 
   few : n ≤ 4
   few = let z = laws.few in omega arith
 
-  ff : (r : ℕ) → swaps (place ps) n (swaps (place ps) n r) ≡ r
-  ff r = swaps_twice (place ps) n r P
+  ff : (r : ℕ) → swaps (seat ps) n (swaps (seat ps) n r) ≡ r
+  ff r = swaps_twice (seat ps) n r P
 
-  pub gate : (i : ℕ) → 4 ≤ i → swaps (place ps) n (1024 + i) ≡ 1024 + i
-  gate i h = let k = few in swaps_else (place ps) n (1024 + i) (λ j l. ((let z = P.low j l in omega arith), omega arith))
+  pub gate : (i : ℕ) → 4 ≤ i → swaps (seat ps) n (1024 + i) ≡ 1024 + i
+  gate i h = let k = few in swaps_else (seat ps) n (1024 + i) (λ j l. ((let z = P.low j l in omega arith), omega arith))
 
   -- where a port of the rule stands
-  pub seated : (g : RulePort) → Spoken K w g → carry (swaps (place ps) n) (up 1024 (rules.code g)) ≡ port (row_of ps g) (number_of g)
-  seated (L j) h = ap (λ (r : ℕ). port r j) (gate 4 (omega arith) ∙ sym g4)
-  seated (R j) h = ap (λ (r : ℕ). port r j) (gate 5 (omega arith) ∙ sym g5)
+  pub seated : (g : RulePort) → Spoken K w g → carry (swaps (seat ps) n) (up 1024 (rules.code g)) ≡ port (row_of ps g) (number_of g)
+  seated (L j) h = ap (λ (r : ℕ). port r j) (gate 4 (omega arith))
+  seated (R j) h = ap (λ (r : ℕ). port r j) (gate 5 (omega arith))
   seated (N i j) (inl h) = absurd h
-  seated (N i j) (inr h) = ap (λ (r : ℕ). port r j) (swaps_new (place ps) n i P (let z = nth_within w.cells i h.0 h.1 in omega arith))
+  seated (N i j) (inr h) = ap (λ (r : ℕ). port r j) (swaps_new (seat ps) n i P (let z = nth_within w.cells i h.0 h.1 in omega arith))
 
   high : (g : RulePort) → (i : ℕ) × (j : ℕ) × (up 1024 (rules.code g) ≡ port (1024 + i) j)
   high (L j) = (4, j, refl)
@@ -40,7 +40,7 @@ module _ (K : RuleBook) (w : Rule) (laws : RuleLaws K w) (n : ℕ) (ps : List �
   high (N i j) = (i, j, refl)
 
   module _ (G : Room w.wires ps) (xs ys : List Link) (m : Spot → Spot) (im : Mutual m) (bm : Bounded 1024 m)
-      (S : Shows xs (renamed (swaps (place ps) n) m)) (A : Laid xs w.wires ps ys) where
+      (S : Shows xs (renamed (swaps (seat ps) n) m)) (A : Laid xs w.wires ps ys) where
     iw : Mutual (wiring w)
     iw = wiring_mutual K w laws
 
@@ -54,7 +54,7 @@ module _ (K : RuleBook) (w : Rule) (laws : RuleLaws K w) (n : ℕ) (ps : List �
     slot g h x = let t = G.rows g h x in port_slot (row_of ps g) (number_of g) t.0 t.1
 
     -- no port of the rule is written over what was there
-    kept : (y : Spot) → Left 1024 (carry (swaps (place ps) n) y) → HasSlot y → goal ys (code y) ≡ goal xs (code y)
+    kept : (y : Spot) → Left 1024 (carry (swaps (seat ps) n) y) → HasSlot y → goal ys (code y) ≡ goal xs (code y)
     kept y l d = A.other (code y) (λ g h x e.
         let s = rules.wire_at K w laws g h x in
         let sp = laws.pairs_only g h x in
@@ -65,7 +65,7 @@ module _ (K : RuleBook) (w : Rule) (laws : RuleLaws K w) (n : ℕ) (ps : List �
         let lt : 1024 + t.0 < 1024 = subst (Left 1024) q l in
         omega arith)
 
-    pub stands : Shows ys (renamed (swaps (place ps) n) (beside 1024 m (wiring w)))
+    pub stands : Shows ys (renamed (swaps (seat ps) n) (beside 1024 m (wiring w)))
     stands y l = go (side 1024 (carry f y))
       where
         lx : V (carry f y) ≢ carry f y

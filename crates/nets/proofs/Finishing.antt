@@ -11,22 +11,21 @@ use Rattle.calculus.proofs.Places.{nth_some}
 use Rattle.books.specs.declared.table.RuleTable.{RuleTable}
 use Rattle.books.specs.Tables.{wires_of, Depicts}
 use Rattle.nets.specs.declared.link.Link.{Link}
-use Rattle.nets.specs.declared.fault.RewriteFault.{RewriteFault}
-use Rattle.nets.specs.declared.fault.RewriteFault.TheVariants.{NotFacing, Unfit, LoopsFull, NoPlace}
 use Rattle.nets.specs.declared.table.Table.{Table}
 use Rattle.nets.specs.Layout.{code, decode, goal, bit, is_used, NamesStanding, NamesBack, NamesOther}
 use Rattle.nets.specs.Meaning.{Content, content, kind_at, arity_at, mate_of, net_of, net, OfBook}
 use Rattle.nets.specs.Fitting.{Paired, Fitting}
-use Rattle.nets.specs.Rewrites.{Face, ports_at, Suits, Cause, Allowed, Limit, Seats, pair}
-use Rattle.nets.specs.Rewiring.{Whole, Known, row_of, number_of, seat_of, Room, place, Places, Filled, Cleared, Laid, Strung}
-use Rattle.nets.specs.Seating.{Seated, Downwards}
+use Rattle.nets.specs.Rewrites.{Face, ports_at, pair, Seats}
+use Rattle.nets.specs.ByBook.{seat}
+use Rattle.nets.specs.Rewiring.{Whole, Known, row_of, number_of, seat_of, Room, Places, Filled, Cleared, Laid, Strung}
+use Rattle.nets.specs.Seating.{Replaceable, Seated, Downwards}
 use Rattle.nets.proofs.Places.{bit_low}
 use Rattle.nets.proofs.Standing.{either, there, at_slot, decode_code, code_decode, code_small, mate_there, is_there, there_port, port_there, some_arity}
 use Rattle.nets.proofs.Standing as standing
 use Rattle.nets.proofs.Seatings.{turn, vacant, none_above, none_between, lower, given_up, places, new_on, gone_off, others, long, turned, left_row, right_row}
 use Rattle.nets.proofs.Makeshift.{arity_of, rule_for, book_for, arity_else, cell_arity, laws_for, listing_long}
 use Rattle.nets.proofs.Loops.{two_circuits}
-use Rattle.nets.proofs.Reworking.{net_with, Sound, Booked, kind_is, kind_some, kind_none, seat, GivenSeats, Relinked, Peopled, booked, free, is_rewriting, twice_after, linked_after}
+use Rattle.nets.proofs.Reworking.{net_with, Sound, Booked, kind_is, kind_some, kind_none, is_seat, GivenSeats, Relinked, Peopled, booked, free, is_rewriting, twice_after, linked_after}
 
 -- a table is sound
 pub sound : (t : Table) → Sound (content t)
@@ -71,8 +70,8 @@ face_from t p q h l e =
     (m, λ z. standing.apart t (port p 0) th (m ∙ ap (λ (r : ℕ). port r 0) (sym z)))
 
 -- the rows of the rule have room
-pub room_of : (a b : ℕ) (r : RuleTable) → Fitting a b r → a ≤ 2 → b ≤ 2 → (ps : List ℕ) → Places (place ps) r.cells → get_or ps 4 0 ≡ 1028 → get_or ps 5 0 ≡ 1029 → Room (wires_of r) ps
-room_of a b r F ha hb ps P g4 g5 = record {
+pub room_of : (a b : ℕ) (r : RuleTable) → Fitting a b r → a ≤ 2 → b ≤ 2 → (ps : List ℕ) → Places (seat ps) r.cells → Room (wires_of r) ps
+room_of a b r F ha hb ps P = record {
   known = λ x y w. known x (F.pairs_only x y w);
   rows = λ x y w. rows x (F.pairs_only x y w);
   apart = λ x y u v w z e. apart x u (F.pairs_only x y w) (F.pairs_only u v z) e;
@@ -135,13 +134,6 @@ relinked_of s p q r ps us vs xs ys zs tn x y top low i j l et ex ey C D A T U e 
   right = subst (λ (y : ℕ). Strung ys low 1029 y zs j) ey U;
   count = omega arith;
 }
-
--- a pair that is active meets only limits
-pub limited : (t : Table) (p q : ℕ) (r : RuleTable) (e : RewriteFault) → Cause t p q r e → Face (net t) p q × Suits t p q r → Limit e
-limited t p q r NotFacing c h = c h.0
-limited t p q r Unfit c h = c.1 h.1
-limited t p q r LoopsFull c h = tt
-limited t p q r NoPlace c h = tt
 
 same_test : (x : ℕ) → eqb x x ≡ true
 same_test x = grind (arith)
@@ -208,23 +200,7 @@ module _ (K : RuleBook) (r : RuleTable) (w : Rule) (D : Depicts K r w) where
           let m = nth_within w.cells i k e in
           (let n = D.cells in omega arith, omega arith)
 
-  -- an active pair of a table of the book suits it
-  pub active_suits : Laws K → (t : Table) (p q i : ℕ) → OfBook K t → Active K (net t) (pair p q i w) → Face (net t) p q × Suits t p q r
-  active_suits laws t p q i B act =
-      let kp = kind_some (content t) (λ r. get_or (content t).kinds r 0) p w.left act.left in
-      let kq = kind_some (content t) (λ r. get_or (content t).kinds r 0) q w.right act.right in
-      let ea = B p w.left act.left ∙ some_arity (content t) p kp.0 in
-      let eb = B q w.right act.right ∙ some_arity (content t) q kq.0 in
-      let th = there_port (content t) p 0 kp.0 (omega arith) in (
-        (act.facing, λ z. standing.apart t (port p 0) th (act.facing ∙ ap (λ (r : ℕ). port r 0) (sym z))),
-        record {
-          left = act.left ∙ ap (λ (v : ℕ). Some v) (sym D.left);
-          right = act.right ∙ ap (λ (v : ℕ). Some v) (sym D.right);
-          fitting = depicted_fits (laws.rules i w act.listed) (ports_at t p) (ports_at t q) ea eb (λ k x e. (laws.kinds k x e).1);
-        },
-      )
-
-module _ (s : Table) (p q : ℕ) (r : RuleTable) (Y : Allowed s p q r) (d : Content) (W : Did s p q r d) where
+module _ (s : Table) (p q : ℕ) (r : RuleTable) (Y : Replaceable s p q r) (d : Content) (W : Did s p q r d) where
   abbrev c : Content
   c = content s
 
@@ -241,7 +217,7 @@ module _ (s : Table) (p q : ℕ) (r : RuleTable) (Y : Allowed s p q r) (d : Cont
   b = ports_at s q
 
   F : Fitting (ports_at s p) (ports_at s q) r
-  F = Y.suits.fitting
+  F = Y.fitting
 
   pq : p ≢ q
   pq = Y.facing.1
@@ -258,7 +234,7 @@ module _ (s : Table) (p q : ℕ) (r : RuleTable) (Y : Allowed s p q r) (d : Cont
   low_q : q < 1024
   low_q = q_low s p q Y.facing
 
-  PL : Places (place W.ps) r.cells
+  PL : Places (seat W.ps) r.cells
   PL = places p q n s.occupied ps d.occupied W.seated F.few pq low_p low_q on_p on_q
 
   seats : GivenSeats (content s) p q r.cells W.ps (1024 + turn p q) (1025 - turn p q) (ltb (turn p q) r.cells) (ltb (1 - turn p q) r.cells)
@@ -270,8 +246,6 @@ module _ (s : Table) (p q : ℕ) (r : RuleTable) (Y : Allowed s p q r) (d : Cont
           | inl l ↦ inr (given_up p q n s.occupied ps d.occupied W.seated F.few pq low_p low_q on_p on_q i l)
           | inr l ↦ inl (let z = vacant p q n s.occupied ps d.occupied W.seated F.few pq low_p low_q on_p on_q i l h in λ e. omega (arith, z.1))
         ];
-        left = W.seated.left;
-        right = W.seated.right;
         row_p = left_row p q n s.occupied ps d.occupied W.seated F.few pq low_p low_q on_p on_q;
         row_q = right_row p q n s.occupied ps d.occupied W.seated F.few pq low_p low_q on_p on_q;
         high_p = omega arith;
@@ -289,12 +263,12 @@ module _ (s : Table) (p q : ℕ) (r : RuleTable) (Y : Allowed s p q r) (d : Cont
   }
 
   room : Room (wires_of r) W.ps
-  room = room_of a b r F (s.ports p) (s.ports q) ps PL W.seated.left W.seated.right
+  room = room_of a b r F (s.ports p) (s.ports q) ps PL
 
   some_none : (o : Option ℕ) (k : ℕ) → o ≡ Some k → o ≢ None
   some_none o k e f = let z : ◌≡◌ {A = ℕ} 0 1 = cc in omega arith
 
-  pub downwards : Downwards (net s) p q r.cells (place W.ps)
+  pub downwards : Downwards (net s) p q r.cells (seat W.ps)
   downwards =
       let kc : ℕ → ℕ = λ x. get_or (content s).kinds x 0 in
       record {
@@ -302,7 +276,7 @@ module _ (s : Table) (p q : ℕ) (r : RuleTable) (Y : Allowed s p q r) (d : Cont
         second = λ h. W.seated.second;
         vacant = λ i h l.
             let v = vacant p q n s.occupied ps d.occupied W.seated F.few pq low_p low_q on_p on_q i h l in
-            (v.0, kind_none c (λ x. get_or (content s).kinds x 0) (place ps i) (λ e. omega (arith, v.1)));
+            (v.0, kind_none c (λ x. get_or (content s).kinds x 0) (seat ps i) (λ e. omega (arith, v.1)));
         down = lower p q n s.occupied ps d.occupied W.seated F.few pq low_p low_q on_p on_q;
         third = λ h x g l. some_none ((net s).kind x) (kc x)
             (kind_is c (λ x. get_or (content s).kinds x 0) x (none_above p q n s.occupied ps d.occupied W.seated F.few pq low_p low_q on_p on_q h x g l));
@@ -358,21 +332,21 @@ module _ (s : Table) (p q : ℕ) (r : RuleTable) (Y : Allowed s p q r) (d : Cont
   ar : (i k : ℕ) → slice_get (rule_for r).cells i ≡ Some k → arity_of (ports_at s p) (ports_at s q) k ≡ Some (get_or r.arities i 0)
   ar i k e = (cell_arity a b r F (s.ports p) (s.ports q) i k e).2
 
-  new_kind : (i k : ℕ) → slice_get (rule_for r).cells i ≡ Some k → kdd (place W.ps i) ≡ k
+  new_kind : (i k : ℕ) → slice_get (rule_for r).cells i ≡ Some k → kdd (seat W.ps i) ≡ k
   new_kind i k e =
       let t = cell_arity a b r F (s.ports p) (s.ports q) i k e in
       ap (λ (v : ℕ). 2 + v) (W.arities.new i t.0) ∙ sym t.1
 
-  old_kind : (x : ℕ) → x ≢ p → x ≢ q → ((i : ℕ) → i < r.cells → x ≢ place W.ps i) → kdd x ≡ kd x
+  old_kind : (x : ℕ) → x ≢ p → x ≢ q → ((i : ℕ) → i < r.cells → x ≢ seat W.ps i) → kdd x ≡ kd x
   old_kind x i j o = ap (λ (v : ℕ). 2 + v) (W.arities.other x o) ∙ sym (kd_else x i j)
 
-  makeshift : Rewriting (book_for (ports_at s p) (ports_at s q) r) (net_with (content s) kd) (pair p q 0 (rule_for r)) (place W.ps) (net_with d kdd)
+  makeshift : Rewriting (book_for (ports_at s p) (ports_at s q) r) (net_with (content s) kd) (pair p q 0 (rule_for r)) (seat W.ps) (net_with d kdd)
   makeshift = is_rewriting (book_for a b r) laws c (sound s) kd B (pair p q 0 (rule_for r)) act n count r.arities ar ps (1024 + turn p q) (1025 - turn p q) (ltb (turn p q) n) (ltb (1 - turn p q) n) seats room d W.relinked people kdd new_kind old_kind
 
   pub few_loops : d.loops < 2 ^ 30
   few_loops =
       let l = makeshift.loops in
-      let t = two_circuits (book_for a b r) laws (net_with (content s) kd) (pair p q 0 (rule_for r)) (place ps) (laws.rules 0 (rule_for r) refl) makeshift.circuits makeshift.counted in
+      let t = two_circuits (book_for a b r) laws (net_with (content s) kd) (pair p q 0 (rule_for r)) (seat ps) (laws.rules 0 (rule_for r) refl) makeshift.circuits makeshift.counted in
       let f = Y.loops in
       omega arith
 
@@ -408,7 +382,7 @@ module _ (s : Table) (p q : ℕ) (r : RuleTable) (Y : Allowed s p q r) (d : Cont
   whole_links = W.relinked.right.whole
 
   pub few_ports : (x : ℕ) → get_or d.arities x 0 ≤ 2
-  few_ports x = elim (seat (place ps) n x) [
+  few_ports x = elim (is_seat (seat ps) n x) [
     | inl t ↦ (let e = ap (λ (x : ℕ). get_or d.arities x 0) t.2 in let f = W.arities.new t.0 t.1 in let g = F.arities t.0 t.1 in omega arith)
     | inr o ↦ (let e = W.arities.other x o in let f = s.ports x in omega arith)
   ]
@@ -436,13 +410,13 @@ module _ (s : Table) (p q : ℕ) (r : RuleTable) (Y : Allowed s p q r) (d : Cont
     within : (j k : ℕ) → slice_get w.cells j ≡ Some k → j < r.cells
     within j k e = let z = nth_within w.cells j k e in let y = D.cells in omega arith
 
-    new_K : (j k : ℕ) → slice_get w.cells j ≡ Some k → ke (place W.ps j) ≡ k
+    new_K : (j k : ℕ) → slice_get w.cells j ≡ Some k → ke (seat W.ps j) ≡ k
     new_K j k e = W.kinds.new j (within j k e) ∙ cell_kind K r w D j k e
 
-    old_K : (x : ℕ) → x ≢ p → x ≢ q → ((j : ℕ) → j < r.cells → x ≢ place W.ps j) → ke x ≡ kc x
+    old_K : (x : ℕ) → x ≢ p → x ≢ q → ((j : ℕ) → j < r.cells → x ≢ seat W.ps j) → ke x ≡ kc x
     old_K x _ _ o = W.kinds.other x o
 
-    pub rewriting_K : Rewriting K (net s) (pair p q i w) (place W.ps) (net_of d)
+    pub rewriting_K : Rewriting K (net s) (pair p q i w) (seat W.ps) (net_of d)
     rewriting_K = is_rewriting K lw c (sound s) kc BK (pair p q i w) ac n (sym D.cells) r.arities (cell_arity_of K r w D) ps (1024 + turn p q) (1025 - turn p q) (ltb (turn p q) n) (ltb (1 - turn p q) n) seats room_K d relinked people ke new_K old_K
 
     pub of_book_K : (x k : ℕ) → kind_at d x ≡ Some k → K.arity k ≡ arity_at d x
@@ -451,7 +425,7 @@ module _ (s : Table) (p q : ℕ) (r : RuleTable) (Y : Allowed s p q r) (d : Cont
         let bk = booked K lw c (sound s) kc BK (pair p q i w) ac n (sym D.cells) r.arities (cell_arity_of K r w D) ps (1024 + turn p q) (1025 - turn p q) (ltb (turn p q) n) (ltb (1 - turn p q) n) seats room_K d relinked people ke new_K old_K in
         ap K.arity (sym t.1) ∙ bk x t.0 ∙ sym (some_arity d x t.0)
 
-    pub seats_K : Seats (net s) (pair p q i w) (place W.ps)
+    pub seats_K : Seats (net s) (pair p q i w) (seat W.ps)
     seats_K = record {
       low = λ j k e. PL.low j (within j k e);
       free = free K lw c (sound s) kc BK (pair p q i w) ac n (sym D.cells) r.arities (cell_arity_of K r w D) ps (1024 + turn p q) (1025 - turn p q) (ltb (turn p q) n) (ltb (1 - turn p q) n) seats room_K d relinked people ke new_K old_K;

@@ -1,11 +1,12 @@
 -- The wires of a rule laid into the links one after the other. Assumes nothing.
-use Rattle.std.proofs.Common.{◌≡◌, ℕ, ◌+◌, ◌<◌, ◌≤◌, Bool, false, cond, eqb, ◌≢◌, ◌⊎◌, List, length, set, Some, sym, refl, ap, ◌∙◌, subst, ap₂, inl, inr, arith, length-set}
+use Rattle.std.proofs.Common.{◌≡◌, ℕ, zero, suc, ◌+◌, ◌*◌, ◌<◌, ◌≤◌, Bool, false, cond, eqb, ◌≢◌, ◌⊎◌, List, [], ◌∷◌, length, get_or, set, Some, sym, refl, ap, ◌∙◌, subst, ap₂, inl, inr, arith, length-set}
 use Rattle.std.specs.List.{slice_get}
 use Rattle.std.proofs.lemmas.Bool.{cases_eq}
 use Rattle.calculus.specs.Books.{RulePort, L, R, N, Wired}
 use Rattle.books.specs.Tables.{port_of}
 use Rattle.nets.specs.declared.link.Link.{Link}
 use Rattle.nets.specs.Layout.{slots, slot_of, goal}
+use Rattle.nets.specs.ByBook.{seat}
 use Rattle.nets.specs.Noting.{Tied}
 use Rattle.nets.specs.Rewiring.{Whole, Known, seat_of, Room, Laying, Laid}
 use Rattle.nets.proofs.Notings.{tied_wired, wired_tied}
@@ -22,6 +23,24 @@ known_row row j k = go (cases_eq row 4) (cases_eq row 5)
         let q : eqb row 5 ≡ false = grind (arith) in
         let z : row < 4 = subst Known (ap₂ (λ (s t : Bool). cond s (L j) (cond t (R j) (N row j))) p q) k in
         omega arith
+
+-- the rows of the rule as the code holds them
+pub at_row : (ps : List ℕ) (row j : ℕ) → row < 6 →
+    get_or (seat ps 0 ∷ seat ps 1 ∷ seat ps 2 ∷ seat ps 3 ∷ 1028 ∷ 1029 ∷ []) row 0 * 4 + j ≡ seat_of ps (port_of row j)
+at_row ps zero j h = refl
+at_row ps (suc zero) j h = refl
+at_row ps (suc (suc zero)) j h = refl
+at_row ps (suc (suc (suc zero))) j h = refl
+at_row ps (suc (suc (suc (suc zero)))) j h = refl
+at_row ps (suc (suc (suc (suc (suc zero))))) j h = refl
+at_row ps (suc (suc (suc (suc (suc (suc row)))))) j h = absurd (omega arith)
+
+-- the rows of a wire are the rule's
+pub wire_rows : (ws : List (RulePort × RulePort)) (ps : List ℕ) → Room ws ps → (n r j s k : ℕ) → slice_get ws n ≡ Some (port_of r j, port_of s k) → (r < 6) × (s < 6)
+wire_rows ws ps G n r j s k e = (
+  known_row r j (G.known (port_of r j) (port_of s k) (tied_wired ws (n + 1) (port_of r j) (port_of s k) (n, (port_of r j, port_of s k), omega arith, e, inl (refl, refl)))),
+  known_row s k (G.known (port_of s k) (port_of r j) (tied_wired ws (n + 1) (port_of s k) (port_of r j) (n, (port_of r j, port_of s k), omega arith, e, inr (refl, refl)))),
+)
 
 pub laid_none : (xs : List Link) (ws : List (RulePort × RulePort)) (ps : List ℕ) → Whole xs → Laying xs ws ps 0 xs
 laid_none xs ws ps W = record {

@@ -20,3 +20,5 @@ pub mod Makeshift
 pub mod Loops
 pub mod Seatings
 pub mod Finishing
+pub mod Suiting
+pub mod Readiness

@@ -25,7 +25,8 @@ use Rattle.calculus.proofs.Tests.{nth_within}
 use Rattle.nets.specs.declared.link.Link.{Link}
 use Rattle.nets.specs.Layout.{decode, bit}
 use Rattle.nets.specs.Meaning.{Content, mate_of}
-use Rattle.nets.specs.Rewiring.{Shows, renamed, place, Places, Room, Laid, Strung, Cleared}
+use Rattle.nets.specs.ByBook.{seat}
+use Rattle.nets.specs.Rewiring.{Shows, renamed, Places, Room, Laid, Strung, Cleared}
 use Rattle.nets.proofs.Standing.{either, there, mate_there, mate_absent, is_there, port_there, there_port, end_there, there_end}
 use Rattle.nets.proofs.Slots.{same_live}
 use Rattle.nets.proofs.Splicing.{closed}
@@ -99,9 +100,9 @@ pairs-append f [] ys = refl
 pairs-append f (x ∷ xs) ys = ap (λ (ss : List (Spot × Spot)). (f x.0, f x.1) ∷ ss) (pairs-append f xs ys)
 
 -- is r the place of a new cell?
-pub seat : (pl : ℕ → ℕ) (n r : ℕ) → ((i : ℕ) × (i < n) × (r ≡ pl i)) ⊎ ((i : ℕ) → i < n → r ≢ pl i)
-seat pl zero r = inr (λ i h. absurd (omega arith))
-seat pl (suc n) r = go (seat pl n r) (cases_eq r (pl n))
+pub is_seat : (pl : ℕ → ℕ) (n r : ℕ) → ((i : ℕ) × (i < n) × (r ≡ pl i)) ⊎ ((i : ℕ) → i < n → r ≢ pl i)
+is_seat pl zero r = inr (λ i h. absurd (omega arith))
+is_seat pl (suc n) r = go (is_seat pl n r) (cases_eq r (pl n))
   where
     go : ((i : ℕ) × (i < n) × (r ≡ pl i)) ⊎ ((i : ℕ) → i < n → r ≢ pl i) → (r ≡ pl n) ⊎ (r ≢ pl n) → ((i : ℕ) × (i < suc n) × (r ≡ pl i)) ⊎ ((i : ℕ) → i < suc n → r ≢ pl i)
     go (inl (i, h, e)) q = inl (i, omega arith, e)
@@ -114,12 +115,10 @@ seat pl (suc n) r = go (seat pl n r) (cases_eq r (pl n))
 
 -- the places of n new cells: of the pair p q or vacant; the pair's rows stand at u and v where new cells take their places
 pub record GivenSeats (c : Content) (p q n : ℕ) (ps : List ℕ) (u v : ℕ) (bp bq : Bool) : Type 0 where
-  pub places : Places (place ps) n
-  pub vacant : (i : ℕ) → i < n → (bit c.occupied (place ps i) ≢ 1) ⊎ ((place ps i ≡ p) ⊎ (place ps i ≡ q))
-  pub left : get_or ps 4 0 ≡ 1028
-  pub right : get_or ps 5 0 ≡ 1029
-  pub row_p : swaps (place ps) n p ≡ cond bp u p
-  pub row_q : swaps (place ps) n q ≡ cond bq v q
+  pub places : Places (seat ps) n
+  pub vacant : (i : ℕ) → i < n → (bit c.occupied (seat ps i) ≢ 1) ⊎ ((seat ps i ≡ p) ⊎ (seat ps i ≡ q))
+  pub row_p : swaps (seat ps) n p ≡ cond bp u p
+  pub row_q : swaps (seat ps) n q ≡ cond bq v q
   pub high_p : 1024 ≤ u
   pub high_q : 1024 ≤ v
   pub two : u ≢ v
@@ -144,18 +143,18 @@ pub record Relinked (c : Content) (p q n : ℕ) (ws : List (Rattle.calculus.spec
 -- p and q have left c, the new cells stand at their places in d, the others as they were
 pub record Peopled (c : Content) (p q n : ℕ) (ars : List ℕ) (ps : List ℕ) (d : Content) : Type 0 where
   pub ends : d.ends ≡ c.ends
-  pub new : (i : ℕ) → i < n → (bit d.occupied (place ps i) ≡ 1) × (get_or d.arities (place ps i) 0 ≡ get_or ars i 0)
-  pub gone : (r : ℕ) → (r ≡ p) ⊎ (r ≡ q) → ((i : ℕ) → i < n → r ≢ place ps i) → bit d.occupied r ≢ 1
-  pub kept : (r : ℕ) → ((i : ℕ) → i < n → r ≢ place ps i) → get_or d.arities r 0 ≡ get_or c.arities r 0
-  pub old : (r : ℕ) → r ≢ p → r ≢ q → ((i : ℕ) → i < n → r ≢ place ps i) → bit d.occupied r ≡ bit c.occupied r
+  pub new : (i : ℕ) → i < n → (bit d.occupied (seat ps i) ≡ 1) × (get_or d.arities (seat ps i) 0 ≡ get_or ars i 0)
+  pub gone : (r : ℕ) → (r ≡ p) ⊎ (r ≡ q) → ((i : ℕ) → i < n → r ≢ seat ps i) → bit d.occupied r ≢ 1
+  pub kept : (r : ℕ) → ((i : ℕ) → i < n → r ≢ seat ps i) → get_or d.arities r 0 ≡ get_or c.arities r 0
+  pub old : (r : ℕ) → r ≢ p → r ≢ q → ((i : ℕ) → i < n → r ≢ seat ps i) → bit d.occupied r ≡ bit c.occupied r
 
 module _ (K : RuleBook) (laws : Laws K) (c : Content) (S : Sound c) (kd : ℕ → ℕ) (B : Booked K c kd) (P : Pair) (act : Active K (net_with c kd) P)
     (n : ℕ) (count : length P.rule.cells ≡ n) (ars : List ℕ) (ar : (i k : ℕ) → slice_get P.rule.cells i ≡ Some k → K.arity k ≡ Some (get_or ars i 0))
     (ps : List ℕ) (u v : ℕ) (bp bq : Bool) (T : GivenSeats c P.left P.right n ps u v bp bq) (room : Room P.rule.wires ps)
     (d : Content) (W : Relinked c P.left P.right n P.rule.wires ps u v bp bq d.links d.loops)
     (H : Peopled c P.left P.right n ars ps d)
-    (kdd : ℕ → ℕ) (new_kind : (i k : ℕ) → slice_get P.rule.cells i ≡ Some k → kdd (place ps i) ≡ k)
-    (old_kind : (r : ℕ) → r ≢ P.left → r ≢ P.right → ((i : ℕ) → i < n → r ≢ place ps i) → kdd r ≡ kd r) where
+    (kdd : ℕ → ℕ) (new_kind : (i k : ℕ) → slice_get P.rule.cells i ≡ Some k → kdd (seat ps i) ≡ k)
+    (old_kind : (r : ℕ) → r ≢ P.left → r ≢ P.right → ((i : ℕ) → i < n → r ≢ seat ps i) → kdd r ≡ kd r) where
   abbrev p : ℕ
   p = P.left
 
@@ -163,7 +162,7 @@ module _ (K : RuleBook) (laws : Laws K) (c : Content) (S : Sound c) (kd : ℕ �
   q = P.right
 
   abbrev f : ℕ → ℕ
-  f = swaps (place ps) n
+  f = swaps (seat ps) n
 
   abbrev A : Net
   A = net_with c kd
@@ -205,24 +204,24 @@ module _ (K : RuleBook) (laws : Laws K) (c : Content) (S : Sound c) (kd : ℕ �
   low_q : P.right < 1024
   low_q = right_small K laws 1024 A G P fc
 
-  ff : (r : ℕ) → swaps (place ps) n (swaps (place ps) n r) ≡ r
-  ff r = swaps_twice (place ps) n r T.places
+  ff : (r : ℕ) → swaps (seat ps) n (swaps (seat ps) n r) ≡ r
+  ff r = swaps_twice (seat ps) n r T.places
 
-  apart : (r : ℕ) → bit c.occupied r ≡ 1 → r ≢ P.left → r ≢ P.right → (i : ℕ) → i < n → r ≢ place ps i
+  apart : (r : ℕ) → bit c.occupied r ≡ 1 → r ≢ P.left → r ≢ P.right → (i : ℕ) → i < n → r ≢ seat ps i
   apart r e np nq i h z = elim (T.vacant i h) [
     | inl o ↦ o (ap (bit c.occupied) (sym z) ∙ e)
     | inr s ↦ elim s [ inl y ↦ np (z ∙ y) | inr y ↦ nq (z ∙ y) ]
   ]
 
-  f_old : (r : ℕ) → bit c.occupied r ≡ 1 → r ≢ P.left → r ≢ P.right → swaps (place ps) n r ≡ r
-  f_old r e np nq = let h = S.low r e in swaps_else (place ps) n r (λ i j. (apart r e np nq i j, omega arith))
+  f_old : (r : ℕ) → bit c.occupied r ≡ 1 → r ≢ P.left → r ≢ P.right → swaps (seat ps) n r ≡ r
+  f_old r e np nq = let h = S.low r e in swaps_else (seat ps) n r (λ i j. (apart r e np nq i j, omega arith))
 
   -- the rule beside the net, and the same under the change of names
   abbrev V : Spot → Spot
   V = laid 1024 (net_with c kd) P
 
   abbrev m₂ : Spot → Spot
-  m₂ = renamed (swaps (place ps) n) (laid 1024 (net_with c kd) P)
+  m₂ = renamed (swaps (seat ps) n) (laid 1024 (net_with c kd) P)
 
   V_twice : Mutual V
   V_twice = laid_mutual K laws 1024 A G P fc
@@ -237,17 +236,17 @@ module _ (K : RuleBook) (laws : Laws K) (c : Content) (S : Sound c) (kd : ℕ �
   same₂ = renamed_same f ff V
 
   abbrev W₁ : List (Spot × Spot)
-  W₁ = wires (swaps (place ps) n P.left) 1028 (ports K P.rule.left)
+  W₁ = wires (swaps (seat ps) n P.left) 1028 (ports K P.rule.left)
 
   abbrev W₂ : List (Spot × Spot)
-  W₂ = wires (swaps (place ps) n P.right) 1029 (ports K P.rule.right)
+  W₂ = wires (swaps (seat ps) n P.right) 1029 (ports K P.rule.right)
 
   -- the splices where the rows stand
   abbrev plug : List (Spot × Spot)
-  plug = (port (swaps (place ps) n P.left) 0, port (swaps (place ps) n P.right) 0) ∷ (W₁ ++ W₂)
+  plug = (port (swaps (seat ps) n P.left) 0, port (swaps (seat ps) n P.right) 0) ∷ (W₁ ++ W₂)
 
-  gates : (i : ℕ) → 4 ≤ i → swaps (place ps) n (1024 + i) ≡ 1024 + i
-  gates = gate K P.rule rl n ps count T.places T.left T.right
+  gates : (i : ℕ) → 4 ≤ i → swaps (seat ps) n (1024 + i) ≡ 1024 + i
+  gates = gate K P.rule rl n ps count T.places
 
   plug_same : pairs (carry f) (plugs K 1024 P) ≡ plug
   plug_same =
@@ -263,11 +262,11 @@ module _ (K : RuleBook) (laws : Laws K) (c : Content) (S : Sound c) (kd : ℕ �
   V_faces : V (port P.left 0) ≡ port P.right 0
   V_faces = on_left 1024 (mate_of c) (wiring P.rule) (port p 0) low_p ∙ act.facing
 
-  faces : m₂ (port (swaps (place ps) n P.left) 0) ≡ port (swaps (place ps) n P.right) 0
+  faces : m₂ (port (swaps (seat ps) n P.left) 0) ≡ port (swaps (seat ps) n P.right) 0
   faces = (same₂.there (port p 0) V_ready.1).0 ∙ ap (carry f) V_faces
 
   abbrev m₃ : Spot → Spot
-  m₃ = through (port (swaps (place ps) n P.left) 0) (port (swaps (place ps) n P.right) 0) m₂
+  m₃ = through (port (swaps (seat ps) n P.left) 0) (port (swaps (seat ps) n P.right) 0) m₂
 
   m₃_twice : Mutual m₃
   m₃_twice = keeps_mutual (port (f p) 0) (port (f q) 0) m₂ m₂_twice ready₂.0 ready₂.1 ready₂.2
@@ -306,10 +305,10 @@ module _ (K : RuleBook) (laws : Laws K) (c : Content) (S : Sound c) (kd : ℕ �
   row_q : (j : ℕ) → mate_of c (port P.right j) ≢ port P.right j → j ≤ ports K P.rule.right
   row_q j h = subst (λ (k : ℕ). j ≤ k) eb (port_there c q j (is_there c (port q j) h)).1
 
-  other : (r j : ℕ) → m₁ (port r j) ≢ port r j → r ≢ P.left → r ≢ P.right → swaps (place ps) n r ≡ r
+  other : (r j : ℕ) → m₁ (port r j) ≢ port r j → r ≢ P.left → r ≢ P.right → swaps (seat ps) n r ≡ r
   other r j h np nq = f_old r (port_there c r j (is_there c (port r j) (m₁_was (port r j) h).2)).0 np nq
 
-  rows : Shows W.vs (renamed (swaps (place ps) n) m₁) × (W.top ≡ swaps (place ps) n P.left) × (W.low ≡ swaps (place ps) n P.right)
+  rows : Shows W.vs (renamed (swaps (seat ps) n) m₁) × (W.top ≡ swaps (seat ps) n P.left) × (W.low ≡ swaps (seat ps) n P.right)
   rows =
       cleared m₁ m₁_twice m₁_low p q a b u v pq low_p low_q T.high_p T.high_q T.two
       (at_a (port p 0) (port q 0) (mate_of c))
@@ -323,17 +322,17 @@ module _ (K : RuleBook) (laws : Laws K) (c : Content) (S : Sound c) (kd : ℕ �
       (subst (λ (k : ℕ). Cleared W.us q v k bq W.vs W.low) eb W.low_clear)
       (closed c.links (mate_of c) S.twice S.shown (port p 0) (port q 0) p0q0 (lp 0 (omega arith)) (lq 0 (omega arith)) act.facing).0
 
-  T₁ : Strung W.xs (swaps (place ps) n P.left) 1028 (ports K P.rule.left) W.ys W.i
+  T₁ : Strung W.xs (swaps (seat ps) n P.left) 1028 (ports K P.rule.left) W.ys W.i
   T₁ = subst (λ (r : ℕ). Strung W.xs r 1028 a W.ys W.i) rows.1 (subst (λ (k : ℕ). Strung W.xs W.top 1028 k W.ys W.i) ea W.left)
 
-  T₂ : Strung W.ys (swaps (place ps) n P.right) 1029 (ports K P.rule.right) d.links W.j
+  T₂ : Strung W.ys (swaps (seat ps) n P.right) 1029 (ports K P.rule.right) d.links W.j
   T₂ = subst (λ (r : ℕ). Strung W.ys r 1029 b d.links W.j) rows.2 (subst (λ (k : ℕ). Strung W.ys W.low 1029 k d.links W.j) eb W.right)
 
-  shown₂ : Shows W.xs (renamed (swaps (place ps) n) (through (port P.left 0) (port P.right 0) V))
+  shown₂ : Shows W.xs (renamed (swaps (seat ps) n) (through (port P.left 0) (port P.right 0) V))
   shown₂ =
       subst (λ (m : Spot → Spot). Shows W.xs (renamed f m))
       (beside_through 1024 (mate_of c) (wiring P.rule) S.twice (bounded K 1024 A G) (wiring_mutual K P.rule rl) (wiring_ports K P.rule rl) (port p 0) (port q 0) low_p low_q)
-      (stands K P.rule rl n ps count T.places T.left T.right room W.vs W.xs m₁ m₁_twice m₁_low rows.0 W.laid_in)
+      (stands K P.rule rl n ps count T.places room W.vs W.xs m₁ m₁_twice m₁_low rows.0 W.laid_in)
 
   shown₃ : Shows W.xs m₃
   shown₃ =
@@ -376,23 +375,23 @@ module _ (K : RuleBook) (laws : Laws K) (c : Content) (S : Sound c) (kd : ℕ �
   within : (i k : ℕ) → slice_get P.rule.cells i ≡ Some k → i < n
   within i k e = let z = nth_within P.rule.cells i k e in omega arith
 
-  pub free : Free (net_with c kd) P (place ps)
+  pub free : Free (net_with c kd) P (seat ps)
   free = record {
-    vacant = λ i k e. elim (T.vacant i (within i k e)) [ inl o ↦ inl (kind_none c kd (place ps i) o) | inr s ↦ inr s ];
+    vacant = λ i k e. elim (T.vacant i (within i k e)) [ inl o ↦ inl (kind_none c kd (seat ps i) o) | inr s ↦ inr s ];
     apart = λ i j k l e g z. T.places.apart i j (within i k e) (within j l g) z;
   }
 
   abbrev B₁ : Net
-  B₁ = settled K laws 1024 (net_with c kd) G P act (place ps) free
+  B₁ = settled K laws 1024 (net_with c kd) G P act (seat ps) free
 
-  as_rewriting : Rewriting K (net_with c kd) P (place ps) B₁
-  as_rewriting = settles_as K laws 1024 A G P act (place ps) free
+  as_rewriting : Rewriting K (net_with c kd) P (seat ps) B₁
+  as_rewriting = settles_as K laws 1024 A G P act (seat ps) free
 
   B₁_good : Good K B₁
-  B₁_good = settled_good K laws 1024 A G P act (place ps) free
+  B₁_good = settled_good K laws 1024 A G P act (seat ps) free
 
   abbrev to : ℕ → ℕ
-  to = places.to K laws 1024 (net_with c kd) G P act (place ps) free
+  to = places.to K laws 1024 (net_with c kd) G P act (seat ps) free
 
   -- the two changes of names agree where something is linked
   agree : (x : Spot) → A₁.mate x ≢ x → carry f x ≡ carry to x
@@ -400,18 +399,18 @@ module _ (K : RuleBook) (laws : Laws K) (c : Content) (S : Sound c) (kd : ℕ �
   agree (port r j) l =
       let t = rewriting.there_after K laws 1024 A G P fc (port r j) l in
       elim (cells K laws 1024 A G P fc r t.0 t.1) [
-        | inl s ↦ ap (λ (r : ℕ). port r j) (f_old r (kind_some c kd r t.0 s.3).0 s.0 s.1 ∙ sym (to_low K laws 1024 A G P act (place ps) free r s.2))
+        | inl s ↦ ap (λ (r : ℕ). port r j) (f_old r (kind_some c kd r t.0 s.3).0 s.0 s.1 ∙ sym (to_low K laws 1024 A G P act (seat ps) free r s.2))
         | inr s ↦
             ap (λ (r : ℕ). port r j)
-            (ap f s.1 ∙ swaps_new (place ps) n s.0 T.places (within s.0 t.0 s.3) ∙ sym (ap to s.1 ∙ to_new K laws 1024 A G P act (place ps) free s.0))
+            (ap f s.1 ∙ swaps_new (seat ps) n s.0 T.places (within s.0 t.0 s.3) ∙ sym (ap to s.1 ∙ to_new K laws 1024 A G P act (seat ps) free s.0))
       ]
 
   -- what is linked in the rewritten net is so in the links
   follows : (y : Spot) → B₁.mate y ≢ y → (M y ≢ y) × (M y ≡ B₁.mate y)
   follows y l =
-      let sl = (settled_alike K laws 1024 A G P act (place ps) free).links in
+      let sl = (settled_alike K laws 1024 A G P act (seat ps) free).links in
       let t = sl.back y l in
-      let x = carry (places.from K laws 1024 A G P act (place ps) free) y in
+      let x = carry (places.from K laws 1024 A G P act (seat ps) free) y in
       let lx : A₁.mate x ≢ x = λ e. l (sym (there_back y l) ∙ ap (carry to) (sym t.0 ∙ e) ∙ t.1) in
       let ex : carry f x ≡ y = agree x lx ∙ t.1 in
       let lmx : A₁.mate (A₁.mate x) ≢ A₁.mate x = λ e. lx (sym (sym (A₁_twice x) ∙ e)) in
@@ -421,26 +420,26 @@ module _ (K : RuleBook) (laws : Laws K) (c : Content) (S : Sound c) (kd : ℕ �
       A₁_twice : (x : Spot) → A₁.mate (A₁.mate x) ≡ x
       A₁_twice = (rewriting.sized_after K laws 1024 A G P fc).good.twice
 
-      there_back : (y : Spot) → B₁.mate y ≢ y → carry to (carry (places.from K laws 1024 A G P act (place ps) free) (B₁.mate y)) ≡ B₁.mate y
-      there_back y l = ((settled_alike K laws 1024 A G P act (place ps) free).links.back (B₁.mate y) (λ z. l (sym (sym (B₁_good.twice y) ∙ z)))).1
+      there_back : (y : Spot) → B₁.mate y ≢ y → carry to (carry (places.from K laws 1024 A G P act (seat ps) free) (B₁.mate y)) ≡ B₁.mate y
+      there_back y l = ((settled_alike K laws 1024 A G P act (seat ps) free).links.back (B₁.mate y) (λ z. l (sym (sym (B₁_good.twice y) ∙ z)))).1
 
   -- the kinds
-  unused : (r : ℕ) → ((i : ℕ) → i < n → r ≢ place ps i) → (i k : ℕ) → slice_get P.rule.cells i ≡ Some k → place ps i ≢ r
+  unused : (r : ℕ) → ((i : ℕ) → i < n → r ≢ seat ps i) → (i k : ℕ) → slice_get P.rule.cells i ≡ Some k → seat ps i ≢ r
   unused r o i k e z = o i (within i k e) (sym z)
 
   new_kind_at : (i : ℕ) → i < n → (k : ℕ) × (slice_get P.rule.cells i ≡ Some k)
   new_kind_at i h = nth_some P.rule.cells i (omega arith)
 
   kind_at : (r : ℕ) → B₁.kind r ≡ (net_with d kdd).kind r
-  kind_at r = go (seat (place ps) n r) (cases_eq r p) (cases_eq r q)
+  kind_at r = go (is_seat (seat ps) n r) (cases_eq r p) (cases_eq r q)
     where
-      R : Rewriting K (net_with c kd) P (place ps) B₁
+      R : Rewriting K (net_with c kd) P (seat ps) B₁
       R = as_rewriting
 
-      go : ((i : ℕ) × (i < n) × (r ≡ place ps i)) ⊎ ((i : ℕ) → i < n → r ≢ place ps i) → (r ≡ P.left) ⊎ (r ≢ P.left) → (r ≡ P.right) ⊎ (r ≢ P.right) → B₁.kind r ≡ (net_with d kdd).kind r
+      go : ((i : ℕ) × (i < n) × (r ≡ seat ps i)) ⊎ ((i : ℕ) → i < n → r ≢ seat ps i) → (r ≡ P.left) ⊎ (r ≢ P.left) → (r ≡ P.right) ⊎ (r ≢ P.right) → B₁.kind r ≡ (net_with d kdd).kind r
       go (inl (i, h, e)) x y =
           let t = new_kind_at i h in
-          ap B₁.kind e ∙ R.new i t.0 t.1 ∙ ap (λ (k : ℕ). Some k) (sym (new_kind i t.0 t.1)) ∙ sym (ap (net_with d kdd).kind e ∙ kind_is d kdd (place ps i) (H.new i h).0)
+          ap B₁.kind e ∙ R.new i t.0 t.1 ∙ ap (λ (k : ℕ). Some k) (sym (new_kind i t.0 t.1)) ∙ sym (ap (net_with d kdd).kind e ∙ kind_is d kdd (seat ps i) (H.new i h).0)
       go (inr o) (inl e) y = R.gone r (inl e) (unused r o) ∙ sym (kind_none d kdd r (H.gone r (inl e) o))
       go (inr o) (inr a) (inl e) = R.gone r (inr e) (unused r o) ∙ sym (kind_none d kdd r (H.gone r (inr e) o))
       go (inr o) (inr a) (inr b) =
@@ -448,9 +447,9 @@ module _ (K : RuleBook) (laws : Laws K) (c : Content) (S : Sound c) (kd : ℕ �
           ∙ ap₂ (λ (x y : ℕ). cond (eqb x 1) (Some y) None) (sym (H.old r a b o)) (sym (old_kind r a b o))
 
   pub booked : Booked K d kdd
-  booked r h = go (seat (place ps) n r) (cases_eq r p) (cases_eq r q)
+  booked r h = go (is_seat (seat ps) n r) (cases_eq r p) (cases_eq r q)
     where
-      go : ((i : ℕ) × (i < n) × (r ≡ place ps i)) ⊎ ((i : ℕ) → i < n → r ≢ place ps i) → (r ≡ P.left) ⊎ (r ≢ P.left) → (r ≡ P.right) ⊎ (r ≢ P.right) → K.arity (kdd r) ≡ Some (get_or d.arities r 0)
+      go : ((i : ℕ) × (i < n) × (r ≡ seat ps i)) ⊎ ((i : ℕ) → i < n → r ≢ seat ps i) → (r ≡ P.left) ⊎ (r ≢ P.left) → (r ≡ P.right) ⊎ (r ≢ P.right) → K.arity (kdd r) ≡ Some (get_or d.arities r 0)
       go (inl (i, l, e)) x y =
           let t = new_kind_at i l in
           ap (λ (r : ℕ). K.arity (kdd r)) e ∙ ap K.arity (new_kind i t.0 t.1) ∙ ar i t.0 t.1 ∙ ap (λ (v : ℕ). Some v) (sym (ap (λ (r : ℕ). get_or d.arities r 0) e ∙ (H.new i l).1))
@@ -465,7 +464,7 @@ module _ (K : RuleBook) (laws : Laws K) (c : Content) (S : Sound c) (kd : ℕ �
   loops_at = settled_alike_loops ∙ loops_after
     where
       settled_alike_loops : B₁.loops ≡ A₁.loops
-      settled_alike_loops = sym (settled_alike K laws 1024 A G P act (place ps) free).loops
+      settled_alike_loops = sym (settled_alike K laws 1024 A G P act (seat ps) free).loops
 
   -- what stands
   stands_in : (y : Spot) → there d y ≡ true → Stands K B₁ y
@@ -495,8 +494,8 @@ module _ (K : RuleBook) (laws : Laws K) (c : Content) (S : Sound c) (kd : ℕ �
   same_net : B₁ ≡ net_with d kdd
   same_net = λ i. record { ends = ends_at i; kind = fun_ext kind_at i; mate = fun_ext mate_at i; loops = loops_at i }
 
-  pub is_rewriting : Rewriting K (net_with c kd) P (place ps) (net_with d kdd)
-  is_rewriting = subst (Rewriting K A P (place ps)) same_net as_rewriting
+  pub is_rewriting : Rewriting K (net_with c kd) P (seat ps) (net_with d kdd)
+  is_rewriting = subst (Rewriting K A P (seat ps)) same_net as_rewriting
 
   pub twice_after : (x : Spot) → mate_of d (mate_of d x) ≡ x
   twice_after = subst (λ (m : Spot → Spot). (x : Spot) → m (m x) ≡ x) (fun_ext mate_at) B₁_good.twice

@@ -2,7 +2,8 @@
 use Rattle.std.proofs.Common.{◌≡◌, ℕ, ◌+◌, ◌-◌, ◌<◌, ◌≤◌, min, max, Bool, true, false, cond, ltb, ◌≢◌, ◌⊎◌, List, length, sym, ap, ◌∙◌, subst, inl, inr, arith}
 use Rattle.std.proofs.lemmas.Bool.{cases_eq, cases_lt}
 use Rattle.nets.specs.Layout.{bit}
-use Rattle.nets.specs.Rewiring.{place, Places}
+use Rattle.nets.specs.ByBook.{seat}
+use Rattle.nets.specs.Rewiring.{Places}
 use Rattle.nets.specs.Seating.{Taken, Seated}
 use Rattle.nets.proofs.Counting.{not_flipped, is_flipped, not_taken, is_taken}
 use Rattle.nets.proofs.Renaming.{swaps, swaps_else, swaps_old}
@@ -54,96 +55,96 @@ module _ (p q n : ℕ) (ms ps ns : List ℕ) (Q : Seated p q n ms ps ns) (few : 
   m₂ h = not_flipped (ltb n 2) Q.lefts Q.rights hi (no_less 2 h) Q.high ∙ m₁ (omega arith)
 
   m₃ : n ≤ 2 → Q.thirds ≡ Q.rights
-  m₃ h = not_taken (ltb 2 n) Q.rights Q.thirds (place ps 2) (no_more 2 h) Q.third
+  m₃ h = not_taken (ltb 2 n) Q.rights Q.thirds (seat ps 2) (no_more 2 h) Q.third
 
   m₄ : n ≤ 3 → ns ≡ Q.thirds
-  m₄ h = not_taken (ltb 3 n) Q.thirds ns (place ps 3) (no_more 3 h) Q.fourth
+  m₄ h = not_taken (ltb 3 n) Q.thirds ns (seat ps 3) (no_more 3 h) Q.fourth
 
-  third : 2 < n → Taken true Q.rights (place ps 2) Q.thirds
-  third h = is_taken (ltb 2 n) Q.rights Q.thirds (place ps 2) (more_than 2 h) Q.third
+  third : 2 < n → Taken true Q.rights (seat ps 2) Q.thirds
+  third h = is_taken (ltb 2 n) Q.rights Q.thirds (seat ps 2) (more_than 2 h) Q.third
 
-  fourth : 3 < n → Taken true Q.thirds (place ps 3) ns
-  fourth h = is_taken (ltb 3 n) Q.thirds ns (place ps 3) (more_than 3 h) Q.fourth
+  fourth : 3 < n → Taken true Q.thirds (seat ps 3) ns
+  fourth h = is_taken (ltb 3 n) Q.thirds ns (seat ps 3) (more_than 3 h) Q.fourth
 
   -- vacant before
-  third_free : 2 < n → bit ms (place ps 2) ≡ 0
-  third_free h = ap (λ (m : List ℕ). bit m (place ps 2)) (sym (m₂ (omega arith))) ∙ (third h).0.1
+  third_free : 2 < n → bit ms (seat ps 2) ≡ 0
+  third_free h = ap (λ (m : List ℕ). bit m (seat ps 2)) (sym (m₂ (omega arith))) ∙ (third h).0.1
 
-  third_on : 2 < n → bit Q.thirds (place ps 2) ≡ 1
+  third_on : 2 < n → bit Q.thirds (seat ps 2) ≡ 1
   third_on h = let t = third h in omega (arith, t.1.here, t.0.1)
 
-  pub three_four : 3 < n → place ps 2 ≢ place ps 3
+  pub three_four : 3 < n → seat ps 2 ≢ seat ps 3
   three_four h e = let a = third_on (omega arith) in let t = fourth h in let b = t.0.1 in let c = ap (bit Q.thirds) e in omega arith
 
-  fourth_free : 3 < n → bit ms (place ps 3) ≡ 0
+  fourth_free : 3 < n → bit ms (seat ps 3) ≡ 0
   fourth_free h =
       let t = third (omega arith) in
-      sym (t.1.other (place ps 3) (λ e. three_four h (sym e)) ∙ ap (λ (m : List ℕ). bit m (place ps 3)) (m₂ (omega arith))) ∙ (fourth h).0.1
+      sym (t.1.other (seat ps 3) (λ e. three_four h (sym e)) ∙ ap (λ (m : List ℕ). bit m (seat ps 3)) (m₂ (omega arith))) ∙ (fourth h).0.1
 
-  pub vacant : (i : ℕ) → 2 ≤ i → i < n → (place ps i < 1024) × (bit ms (place ps i) ≡ 0)
+  pub vacant : (i : ℕ) → 2 ≤ i → i < n → (seat ps i < 1024) × (bit ms (seat ps i) ≡ 0)
   vacant i h l = go (cases_eq i 2)
     where
-      go : (i ≡ 2) ⊎ (i ≢ 2) → (place ps i < 1024) × (bit ms (place ps i) ≡ 0)
-      go (inl e) = subst (λ (i : ℕ). (place ps i < 1024) × (bit ms (place ps i) ≡ 0)) (sym e) ((third (omega arith)).0.0, third_free (omega arith))
+      go : (i ≡ 2) ⊎ (i ≢ 2) → (seat ps i < 1024) × (bit ms (seat ps i) ≡ 0)
+      go (inl e) = subst (λ (i : ℕ). (seat ps i < 1024) × (bit ms (seat ps i) ≡ 0)) (sym e) ((third (omega arith)).0.0, third_free (omega arith))
       go (inr o) =
           let e : i ≡ 3 = omega arith in
-          subst (λ (i : ℕ). (place ps i < 1024) × (bit ms (place ps i) ≡ 0)) (sym e) ((fourth (omega arith)).0.0, fourth_free (omega arith))
+          subst (λ (i : ℕ). (seat ps i < 1024) × (bit ms (seat ps i) ≡ 0)) (sym e) ((fourth (omega arith)).0.0, fourth_free (omega arith))
 
   -- and none above them
-  pub none_above : 2 < n → (k : ℕ) → place ps 2 < k → k < 1024 → bit ms k ≡ 1
+  pub none_above : 2 < n → (k : ℕ) → seat ps 2 < k → k < 1024 → bit ms k ≡ 1
   none_above h k a b = ap (λ (m : List ℕ). bit m k) (sym (m₂ (omega arith))) ∙ (third h).0.2 k a b
 
-  pub none_between : 3 < n → (k : ℕ) → place ps 3 < k → k < 1024 → k ≢ place ps 2 → bit ms k ≡ 1
+  pub none_between : 3 < n → (k : ℕ) → seat ps 3 < k → k < 1024 → k ≢ seat ps 2 → bit ms k ≡ 1
   none_between h k a b o =
       let t = third (omega arith) in
       sym (t.1.other k o ∙ ap (λ (m : List ℕ). bit m k) (m₂ (omega arith))) ∙ (fourth h).0.2 k a b
 
-  pub lower : 3 < n → place ps 3 < place ps 2
-  lower h = elim (cases_lt (place ps 3) (place ps 2)) [
+  pub lower : 3 < n → seat ps 3 < seat ps 2
+  lower h = elim (cases_lt (seat ps 3) (seat ps 2)) [
     | inl l ↦ l
     | inr l ↦
         (let o = three_four h in
-        let a = none_above (omega arith) (place ps 3) (omega arith) (fourth h).0.0 in
+        let a = none_above (omega arith) (seat ps 3) (omega arith) (fourth h).0.0 in
         let b = fourth_free h in
         absurd (omega arith))
   ]
 
   -- the first two are the pair's
-  pub given_up : (i : ℕ) → i < 2 → (place ps i ≡ p) ⊎ (place ps i ≡ q)
+  pub given_up : (i : ℕ) → i < 2 → (seat ps i ≡ p) ⊎ (seat ps i ≡ q)
   given_up i h = go (cases_eq i 0) either_way
     where
-      go : (i ≡ 0) ⊎ (i ≢ 0) → ((p ≡ min p q) × (q ≡ max p q)) ⊎ ((p ≡ max p q) × (q ≡ min p q)) → (place ps i ≡ p) ⊎ (place ps i ≡ q)
-      go (inl e) (inl w) = inl (ap (place ps) e ∙ Q.first ∙ sym w.0)
-      go (inl e) (inr w) = inr (ap (place ps) e ∙ Q.first ∙ sym w.1)
-      go (inr n) (inl w) = let e : i ≡ 1 = omega arith in inr (ap (place ps) e ∙ Q.second ∙ sym w.1)
-      go (inr n) (inr w) = let e : i ≡ 1 = omega arith in inl (ap (place ps) e ∙ Q.second ∙ sym w.0)
+      go : (i ≡ 0) ⊎ (i ≢ 0) → ((p ≡ min p q) × (q ≡ max p q)) ⊎ ((p ≡ max p q) × (q ≡ min p q)) → (seat ps i ≡ p) ⊎ (seat ps i ≡ q)
+      go (inl e) (inl w) = inl (ap (seat ps) e ∙ Q.first ∙ sym w.0)
+      go (inl e) (inr w) = inr (ap (seat ps) e ∙ Q.first ∙ sym w.1)
+      go (inr n) (inl w) = let e : i ≡ 1 = omega arith in inr (ap (seat ps) e ∙ Q.second ∙ sym w.1)
+      go (inr n) (inr w) = let e : i ≡ 1 = omega arith in inl (ap (seat ps) e ∙ Q.second ∙ sym w.0)
 
-  on_pair : (i : ℕ) → i < 2 → (place ps i < 1024) × (bit ms (place ps i) ≡ 1)
+  on_pair : (i : ℕ) → i < 2 → (seat ps i < 1024) × (bit ms (seat ps i) ≡ 1)
   on_pair i h = elim (given_up i h) [
     | inl e ↦ subst (λ (r : ℕ). (r < 1024) × (bit ms r ≡ 1)) (sym e) (hp, op)
     | inr e ↦ subst (λ (r : ℕ). (r < 1024) × (bit ms r ≡ 1)) (sym e) (hq, oq)
   ]
 
-  pub places : Places (place ps) n
+  pub places : Places (seat ps) n
   places = record {
     low = λ i h. elim (cases_lt i 2) [ inl l ↦ (on_pair i l).0 | inr l ↦ (vacant i l h).0 ];
     apart = λ i j h k e. go i j h k e (cases_lt i 2) (cases_lt j 2) (cases_eq i j);
   }
     where
-      first_two : place ps 0 ≢ place ps 1
+      first_two : seat ps 0 ≢ seat ps 1
       first_two e = lohi (sym Q.first ∙ e ∙ Q.second)
 
-      go : (i j : ℕ) → i < n → j < n → place ps i ≡ place ps j → (i < 2) ⊎ (2 ≤ i) → (j < 2) ⊎ (2 ≤ j) → (i ≡ j) ⊎ (i ≢ j) → i ≡ j
+      go : (i j : ℕ) → i < n → j < n → seat ps i ≡ seat ps j → (i < 2) ⊎ (2 ≤ i) → (j < 2) ⊎ (2 ≤ j) → (i ≡ j) ⊎ (i ≢ j) → i ≡ j
       go i j h k e x y (inl z) = z
       go i j h k e (inl x) (inl y) (inr z) = absurd (elim (cases_eq i 0) [
-        | inl w ↦ (let v : j ≡ 1 = omega arith in first_two (ap (place ps) (sym w) ∙ e ∙ ap (place ps) v))
-        | inr w ↦ (let u : i ≡ 1 = omega arith in let v : j ≡ 0 = omega arith in first_two (ap (place ps) (sym v) ∙ sym e ∙ ap (place ps) u))
+        | inl w ↦ (let v : j ≡ 1 = omega arith in first_two (ap (seat ps) (sym w) ∙ e ∙ ap (seat ps) v))
+        | inr w ↦ (let u : i ≡ 1 = omega arith in let v : j ≡ 0 = omega arith in first_two (ap (seat ps) (sym v) ∙ sym e ∙ ap (seat ps) u))
       ])
       go i j h k e (inl x) (inr y) (inr z) = let a = (on_pair i x).1 in let b = (vacant j y k).1 in let c = ap (bit ms) e in absurd (omega arith)
       go i j h k e (inr x) (inl y) (inr z) = let a = (on_pair j y).1 in let b = (vacant i x h).1 in let c = ap (bit ms) e in absurd (omega arith)
       go i j h k e (inr x) (inr y) (inr z) = absurd (elim (cases_eq i 2) [
-        | inl w ↦ (let v : j ≡ 3 = omega arith in three_four (omega arith) (ap (place ps) (sym w) ∙ e ∙ ap (place ps) v))
-        | inr w ↦ (let u : i ≡ 3 = omega arith in let v : j ≡ 2 = omega arith in three_four (omega arith) (ap (place ps) (sym v) ∙ sym e ∙ ap (place ps) u))
+        | inl w ↦ (let v : j ≡ 3 = omega arith in three_four (omega arith) (ap (seat ps) (sym w) ∙ e ∙ ap (seat ps) v))
+        | inr w ↦ (let u : i ≡ 3 = omega arith in let v : j ≡ 2 = omega arith in three_four (omega arith) (ap (seat ps) (sym v) ∙ sym e ∙ ap (seat ps) u))
       ])
 
   -- an occupied place stays so
@@ -166,25 +167,25 @@ module _ (p q n : ℕ) (ms ps ns : List ℕ) (Q : Seated p q n ms ps ns) (few : 
     | inr k ↦ ap (λ (m : List ℕ). bit m lo) (m₂ k) ∙ on_lo
   ]
 
-  pub new_on : (i : ℕ) → i < n → bit ns (place ps i) ≡ 1
+  pub new_on : (i : ℕ) → i < n → bit ns (seat ps i) ≡ 1
   new_on i h = go (cases_eq i 0) (cases_eq i 1) (cases_eq i 2)
     where
-      go : (i ≡ 0) ⊎ (i ≢ 0) → (i ≡ 1) ⊎ (i ≢ 1) → (i ≡ 2) ⊎ (i ≢ 2) → bit ns (place ps i) ≡ 1
-      go (inl e) y z = ap (λ (i : ℕ). bit ns (place ps i)) e ∙ ap (bit ns) Q.first ∙ stays_on lo (lo_on (omega arith))
-      go (inr a) (inl e) z = ap (λ (i : ℕ). bit ns (place ps i)) e ∙ ap (bit ns) Q.second ∙ stays_on hi (ap (λ (m : List ℕ). bit m hi) (m₂ (omega arith)) ∙ on_hi)
-      go (inr a) (inr b) (inl e) = ap (λ (i : ℕ). bit ns (place ps i)) e ∙ later (third_on (omega arith))
+      go : (i ≡ 0) ⊎ (i ≢ 0) → (i ≡ 1) ⊎ (i ≢ 1) → (i ≡ 2) ⊎ (i ≢ 2) → bit ns (seat ps i) ≡ 1
+      go (inl e) y z = ap (λ (i : ℕ). bit ns (seat ps i)) e ∙ ap (bit ns) Q.first ∙ stays_on lo (lo_on (omega arith))
+      go (inr a) (inl e) z = ap (λ (i : ℕ). bit ns (seat ps i)) e ∙ ap (bit ns) Q.second ∙ stays_on hi (ap (λ (m : List ℕ). bit m hi) (m₂ (omega arith)) ∙ on_hi)
+      go (inr a) (inr b) (inl e) = ap (λ (i : ℕ). bit ns (seat ps i)) e ∙ later (third_on (omega arith))
         where
-          later : bit Q.thirds (place ps 2) ≡ 1 → bit ns (place ps 2) ≡ 1
+          later : bit Q.thirds (seat ps 2) ≡ 1 → bit ns (seat ps 2) ≡ 1
           later g = elim (cases_lt 3 n) [
-            | inl k ↦ (fourth k).1.other (place ps 2) (three_four k) ∙ g
-            | inr k ↦ ap (λ (m : List ℕ). bit m (place ps 2)) (m₄ k) ∙ g
+            | inl k ↦ (fourth k).1.other (seat ps 2) (three_four k) ∙ g
+            | inr k ↦ ap (λ (m : List ℕ). bit m (seat ps 2)) (m₄ k) ∙ g
           ]
       go (inr a) (inr b) (inr c) =
           let e : i ≡ 3 = omega arith in
           let t = fourth (omega arith) in
-          ap (λ (i : ℕ). bit ns (place ps i)) e ∙ (omega (arith, t.1.here, t.0.1))
+          ap (λ (i : ℕ). bit ns (seat ps i)) e ∙ (omega (arith, t.1.here, t.0.1))
 
-  lo_off : ((i : ℕ) → i < n → min p q ≢ place ps i) → bit ns (min p q) ≢ 1
+  lo_off : ((i : ℕ) → i < n → min p q ≢ seat ps i) → bit ns (min p q) ≢ 1
   lo_off o =
       let z : n ≡ 0 = elim (cases_lt 0 n) [ inl h ↦ absurd (o 0 h (sym Q.first)) | inr h ↦ omega arith ] in
       let a = (is_flipped (ltb n 1) ms Q.lefts lo (less 1 (omega arith)) Q.low).here in
@@ -193,7 +194,7 @@ module _ (p q n : ℕ) (ms ps ns : List ℕ) (Q : Seated p q n ms ps ns) (few : 
       let d = on_lo in
       λ e. omega arith
 
-  hi_off : ((i : ℕ) → i < n → max p q ≢ place ps i) → bit ns (max p q) ≢ 1
+  hi_off : ((i : ℕ) → i < n → max p q ≢ seat ps i) → bit ns (max p q) ≢ 1
   hi_off o =
       let z : n < 2 = elim (cases_lt 1 n) [ inl h ↦ absurd (o 1 h (sym Q.second)) | inr h ↦ omega arith ] in
       let a = (is_flipped (ltb n 2) Q.lefts Q.rights hi (less 2 z) Q.high).here in
@@ -205,7 +206,7 @@ module _ (p q n : ℕ) (ms ps ns : List ℕ) (Q : Seated p q n ms ps ns) (few : 
       let d = on_hi in
       λ e. omega arith
 
-  pub gone_off : (r : ℕ) → (r ≡ p) ⊎ (r ≡ q) → ((i : ℕ) → i < n → r ≢ place ps i) → bit ns r ≢ 1
+  pub gone_off : (r : ℕ) → (r ≡ p) ⊎ (r ≡ q) → ((i : ℕ) → i < n → r ≢ seat ps i) → bit ns r ≢ 1
   gone_off r w o = elim (which w either_way) [
     | inl e ↦ (λ h. lo_off (λ i k z. o i k (e ∙ z)) (ap (bit ns) (sym e) ∙ h))
     | inr e ↦ (λ h. hi_off (λ i k z. o i k (e ∙ z)) (ap (bit ns) (sym e) ∙ h))
@@ -217,7 +218,7 @@ module _ (p q n : ℕ) (ms ps ns : List ℕ) (Q : Seated p q n ms ps ns) (few : 
       which (inr e) (inl f) = inr (e ∙ f.1)
       which (inr e) (inr f) = inl (e ∙ f.1)
 
-  pub others : (r : ℕ) → r ≢ p → r ≢ q → ((i : ℕ) → i < n → r ≢ place ps i) → bit ns r ≡ bit ms r
+  pub others : (r : ℕ) → r ≢ p → r ≢ q → ((i : ℕ) → i < n → r ≢ seat ps i) → bit ns r ≡ bit ms r
   others r np nq o = d ∙ c ∙ b ∙ a
     where
       rlo : r ≢ min p q
@@ -278,31 +279,31 @@ module _ (p q n : ℕ) (ms ps ns : List ℕ) (Q : Seated p q n ms ps ns) (few : 
   turn_high : q < p → turn p q ≡ 1
   turn_high h = let b : ltb p q ≡ false = grind (arith) in ap (λ (t : Bool). cond t 0 1) b
 
-  pub turned : (turn p q ≤ 1) × (place ps (turn p q) ≡ p) × (place ps (1 - turn p q) ≡ q)
+  pub turned : (turn p q ≤ 1) × (seat ps (turn p q) ≡ p) × (seat ps (1 - turn p q) ≡ q)
   turned = elim (cases_lt p q) [
     | inl h ↦
         (let e = turn_low h in
-        (omega arith, ap (place ps) e ∙ Q.first ∙ (omega arith), ap (λ (t : ℕ). place ps (1 - t)) e ∙ Q.second ∙ (omega arith)))
+        (omega arith, ap (seat ps) e ∙ Q.first ∙ (omega arith), ap (λ (t : ℕ). seat ps (1 - t)) e ∙ Q.second ∙ (omega arith)))
     | inr h ↦
         (let e = turn_high (omega arith) in
-        (omega arith, ap (place ps) e ∙ Q.second ∙ (omega arith), ap (λ (t : ℕ). place ps (1 - t)) e ∙ Q.first ∙ (omega arith)))
+        (omega arith, ap (seat ps) e ∙ Q.second ∙ (omega arith), ap (λ (t : ℕ). seat ps (1 - t)) e ∙ Q.first ∙ (omega arith)))
   ]
 
-  seated_row : (s i o : ℕ) → i ≤ 1 → place ps i ≡ s → place ps (1 - i) ≡ o → s ≢ o → s < 1024 → swaps (place ps) n s ≡ cond (ltb i n) (1024 + i) s
+  seated_row : (s i o : ℕ) → i ≤ 1 → seat ps i ≡ s → seat ps (1 - i) ≡ o → s ≢ o → s < 1024 → swaps (seat ps) n s ≡ cond (ltb i n) (1024 + i) s
   seated_row s i o hi e f so hs = elim (cases_lt i n) [
-    | inl h ↦ ap (swaps (place ps) n) (sym e) ∙ swaps_old (place ps) n i places h ∙ sym (ap (λ (t : Bool). cond t (1024 + i) s) (more_than i h))
+    | inl h ↦ ap (swaps (seat ps) n) (sym e) ∙ swaps_old (seat ps) n i places h ∙ sym (ap (λ (t : Bool). cond t (1024 + i) s) (more_than i h))
     | inr h ↦
-        swaps_else (place ps) n s (λ j k. ((λ z. let u : j ≡ 1 - i = omega arith in so (z ∙ ap (place ps) u ∙ f)), (λ z. omega arith)))
+        swaps_else (seat ps) n s (λ j k. ((λ z. let u : j ≡ 1 - i = omega arith in so (z ∙ ap (seat ps) u ∙ f)), (λ z. omega arith)))
         ∙ sym (ap (λ (t : Bool). cond t (1024 + i) s) (no_more i h))
   ]
 
-  pub left_row : swaps (place ps) n p ≡ cond (ltb (turn p q) n) (1024 + turn p q) p
+  pub left_row : swaps (seat ps) n p ≡ cond (ltb (turn p q) n) (1024 + turn p q) p
   left_row = let t = turned in seated_row p (turn p q) q t.0 t.1 t.2 pq hp
 
-  pub right_row : swaps (place ps) n q ≡ cond (ltb (1 - turn p q) n) (1025 - turn p q) q
+  pub right_row : swaps (seat ps) n q ≡ cond (ltb (1 - turn p q) n) (1025 - turn p q) q
   right_row =
       let t = turned in
       let u : 1024 + (1 - turn p q) ≡ 1025 - turn p q = omega (arith, t.0) in
       let v : 1 - (1 - turn p q) ≡ turn p q = omega (arith, t.0) in
-      seated_row q (1 - turn p q) p (omega arith) t.2 (ap (place ps) v ∙ t.1) (λ e. pq (sym e)) hq
+      seated_row q (1 - turn p q) p (omega arith) t.2 (ap (seat ps) v ∙ t.1) (λ e. pq (sym e)) hq
       ∙ ap (λ (x : ℕ). cond (ltb (1 - turn p q) n) x q) u

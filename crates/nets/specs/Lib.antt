@@ -5,6 +5,7 @@ pub mod Drafts
 pub mod Inner
 pub mod Fitting
 pub mod Rewrites
+pub mod ByBook
 pub mod Noting
 pub mod Rewiring
 pub mod Seating

@@ -8,6 +8,7 @@ use Rattle.calculus.proofs.Plugs.{wires}
 use Rattle.nets.specs.declared.link.Link.{Link}
 use Rattle.nets.specs.Layout.{code, decode, slots, goal}
 use Rattle.nets.specs.Noting.{Tied}
+use Rattle.nets.specs.ByBook.{seat}
 
 -- every slot names a slot
 pub record Whole (xs : List Link) : Type 0 where
@@ -66,11 +67,11 @@ pub record Cleared (xs : List Link) (p t n : ℕ) (b : Bool) (ys : List Link) (r
   pub moved : b ≡ true → (r ≡ t) × Parked xs p t n ys
   pub stayed : b ≡ false → (r ≡ p) × (ys ≡ xs)
 
--- the row of a rule's port, the rows of the rule standing at ps
+-- the row of a rule's port: the gates of L and R, and new cell i where place i of ps is
 abbrev pub row_of : List ℕ → RulePort → ℕ
-row_of ps (L j) = slice_index ps 4
-row_of ps (R j) = slice_index ps 5
-row_of ps (N i j) = slice_index ps i
+row_of ps (L j) = 1028
+row_of ps (R j) = 1029
+row_of ps (N i j) = seat ps i
 
 -- the number of a rule's port in its row
 abbrev pub number_of : RulePort → ℕ
@@ -107,10 +108,6 @@ pub record Laid (xs : List Link) (ws : List (RulePort × RulePort)) (ps : List �
   pub here : (x y : RulePort) → Wired ws x y → goal ys (seat_of ps x) ≡ seat_of ps y
   pub other : (k : ℕ) → ((x y : RulePort) → Wired ws x y → k ≢ seat_of ps x) → goal ys k ≡ goal xs k
 
--- what stands in the list
-abbrev pub place : List ℕ → ℕ → ℕ
-place ps i = slice_index ps i
-
 -- the first n are places of cells, all different
 pub record Places (pl : ℕ → ℕ) (n : ℕ) : Type 0 where
   pub low : (i : ℕ) → i < n → pl i < 1024
@@ -119,5 +116,5 @@ pub record Places (pl : ℕ → ℕ) (n : ℕ) : Type 0 where
 -- the first n values stand at the first n of ps
 pub record Filled (xs values : List ℕ) (n : ℕ) (ps : List ℕ) (ys : List ℕ) : Type 0 where
   pub long : length ys ≡ length xs
-  pub new : (i : ℕ) → i < n → slice_index ys (slice_index ps i) ≡ slice_index values i
-  pub other : (k : ℕ) → ((i : ℕ) → i < n → k ≢ slice_index ps i) → slice_index ys k ≡ slice_index xs k
+  pub new : (i : ℕ) → i < n → slice_index ys (seat ps i) ≡ slice_index values i
+  pub other : (k : ℕ) → ((i : ℕ) → i < n → k ≢ seat ps i) → slice_index ys k ≡ slice_index xs k

@@ -1,14 +1,18 @@
 -- What the private functions that seat the new cells and replace a pair tell each other; no public contract cites it. Assumes nothing.
-use Rattle.std.specs.Prelude.{◌≡◌, ℕ, zero, suc, ◌+◌, ◌-◌, ◌<◌, ◌≤◌, min, max, Bool, true, false, ◌≢◌, List, length, Some, None, Option, nat_lt, slice_index, slice_index_or}
+use Rattle.std.specs.Prelude.{◌≡◌, ℕ, zero, suc, ◌+◌, ◌-◌, ◌<◌, ◌≤◌, min, max, Bool, true, false, ◌≢◌, List, length, Some, None, Option, nat_lt}
 use Rattle.calculus.specs.Books.{Rule, RuleBook, Laws}
 use Rattle.calculus.specs.Nets.{Net, Active}
 use Rattle.books.specs.declared.table.RuleTable.{RuleTable}
 use Rattle.books.specs.Tables.{Depicts}
 use Rattle.nets.specs.declared.fault.RewriteFault.{RewriteFault}
+use Rattle.nets.specs.declared.fault.PairFault.{PairFault}
+use Rattle.nets.specs.declared.fault.PairFault.TheVariants.{NotReady, LoopsFull, NoPlace}
 use Rattle.nets.specs.declared.table.Table.{Table}
 use Rattle.nets.specs.Layout.{bit}
-use Rattle.nets.specs.Meaning.{net, OfBook}
-use Rattle.nets.specs.Rewrites.{Cause, Allowed, Rewrote, pair}
+use Rattle.nets.specs.Meaning.{net, OfBook, cells_below}
+use Rattle.nets.specs.Fitting.{Fitting}
+use Rattle.nets.specs.Rewrites.{Face, ports_at, pair, LoopsFree, Cause, Allowed}
+use Rattle.nets.specs.ByBook.{Ready, PairCause, seat, RewroteAt}
 
 -- how many of the places below n are occupied
 unfoldable pub bits_below : List ℕ → ℕ → ℕ
@@ -36,24 +40,52 @@ abbrev pub Taken : Bool → List ℕ → ℕ → List ℕ → Type 0
 Taken true ms r ns = Highest ms (Some r) × Flipped ms r ns
 Taken false ms r ns = ns ≡ ms
 
--- the places of n new cells: the two given up, lower first, then vacant ones from the top down; the rows of L and R come behind
+-- the places of n new cells: the two given up, lower first, then vacant ones from the top down
 pub record Seated (p q n : ℕ) (ms ps ns : List ℕ) : Type 0 where
-  pub first : slice_index_or ps 0 0 ≡ min p q
-  pub second : slice_index_or ps 1 0 ≡ max p q
-  pub left : slice_index_or ps 4 0 ≡ 1028
-  pub right : slice_index_or ps 5 0 ≡ 1029
+  pub first : seat ps 0 ≡ min p q
+  pub second : seat ps 1 ≡ max p q
   pub lefts : List ℕ
   pub rights : List ℕ
   pub thirds : List ℕ
   pub low : FlippedIf (nat_lt n 1) ms (min p q) lefts
   pub high : FlippedIf (nat_lt n 2) lefts (max p q) rights
-  pub third : Taken (nat_lt 2 n) rights (slice_index ps 2) thirds
-  pub fourth : Taken (nat_lt 3 n) thirds (slice_index ps 3) ns
+  pub third : Taken (nat_lt 2 n) rights (seat ps 2) thirds
+  pub fourth : Taken (nat_lt 3 n) thirds (seat ps 3) ns
 
--- what is against the rewrite, or that nothing is
+-- what is against the rewrite by a rule, or that nothing is
 abbrev pub Reason : Table → ℕ → ℕ → RuleTable → Option RewriteFault → Type 0
 Reason t p q r (Some e) = Cause t p q r e
 Reason t p q r None = Allowed t p q r
+
+-- r is the rule of the pair in these places, which is ready
+pub record RuleReady (K : RuleBook) (t : Table) (p q : ℕ) (r : RuleTable) : Type 0 where
+  pub position : ℕ
+  pub rule : Rule
+  pub depicts : Depicts K r rule
+  pub ready : Ready K t (pair p q position rule)
+
+-- the rule of the pair in these places, if it is ready
+abbrev pub Chosen : RuleBook → Table → ℕ → ℕ → Option RuleTable → Type 0
+Chosen K t p q (Some r) = RuleReady K t p q r
+Chosen K t p q None = PairCause K t p q NotReady
+
+-- there is room for n new cells
+abbrev pub RoomFor : Table → ℕ → Type 0
+RoomFor t n = cells_below (net t) 1024 + n ≤ 1026
+
+-- the limit that is against a rule with n new cells, or that none is
+abbrev pub Limiting : Table → ℕ → Option PairFault → Type 0
+Limiting t n (Some NotReady) = ⊥
+Limiting t n (Some LoopsFull) = LoopsFree t → ⊥
+Limiting t n (Some NoPlace) = LoopsFree t × (RoomFor t n → ⊥)
+Limiting t n None = LoopsFree t × RoomFor t n
+
+-- the table of a rule can replace the pair in these places
+pub record Replaceable (t : Table) (p q : ℕ) (r : RuleTable) : Type 0 where
+  pub facing : Face (net t) p q
+  pub fitting : Fitting (ports_at t p) (ports_at t q) r
+  pub loops : LoopsFree t
+  pub places : RoomFor t r.cells
 
 -- the new cells stand in the two places given up, lower place first, then in vacant places from the top down, none skipped
 pub record Downwards (A : Net) (p q n : ℕ) (place : ℕ → ℕ) : Type 0 where
@@ -65,7 +97,7 @@ pub record Downwards (A : Net) (p q n : ℕ) (place : ℕ → ℕ) : Type 0 wher
   pub fourth : 3 < n → (r : ℕ) → place 3 < r → r < 1024 → r ≢ place 2 → A.kind r ≢ None
 
 -- an active pair of a table of the book is rewritten by its rule, the new cells seated so
-abbrev pub Replaced : Table → ℕ → ℕ → RuleTable → Table → Type 0
-Replaced s p q r t =
+abbrev pub Replaced : Table → ℕ → ℕ → RuleTable → List ℕ → Table → Type 0
+Replaced s p q r places t =
     (K : RuleBook) (i : ℕ) (w : Rule) → Laws K → OfBook K s → Depicts K r w → Active K (net s) (pair p q i w) →
-    (R : Rewrote K s (pair p q i w) t) × Downwards (net s) p q r.cells R.place
+    RewroteAt K s (pair p q i w) places t × Downwards (net s) p q r.cells (seat places)

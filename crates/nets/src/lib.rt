@@ -1,6 +1,7 @@
 // Nets as tables.
 #![tactic(auto)]
 
+mod by_book;
 pub mod draft;
 pub mod drafting;
 pub mod fault;

@@ -2,8 +2,8 @@
 ghost use Rattle.std.specs.Prelude.{◌≡◌, ◌<◌, if◌then◌else◌, vec_len, nat_lt, slice_index};
 ghost use Rattle.nets.specs.Meaning.{net};
 ghost use Rattle.nets.specs.Fitting.{Told};
-ghost use Rattle.nets.specs.Rewrites.{Face, Suits, Allowed, Due, Rewrites};
-ghost use Rattle.nets.specs.Seating.{Reason, Replaced};
+ghost use Rattle.nets.specs.Rewrites.{Face, Suits, Due, Rewrites};
+ghost use Rattle.nets.specs.Seating.{Reason, Replaceable, Replaced};
 
 use crate::fault::RewriteFault;
 use crate::fitting::fits;
@@ -50,7 +50,7 @@ impl Table {
     }
 
     // Whether the places hold two cells whose principal ports are linked.
-    fn are_facing(&self, left: u16, right: u16) -> bool
+    pub(crate) fn are_facing(&self, left: u16, right: u16) -> bool
         ensures { Told (Face (net self.now) left right) result }
     {
         if !is_occupied(&self.occupied, left) || right >= 1030 {
@@ -72,9 +72,10 @@ impl Table {
     }
 
     // The pair replaced by the rule's right side: its auxiliary ports parked where new cells take its places, the rule's wires laid, each port spliced with its gate.
-    fn replace(&mut self, left: u16, right: u16, rule: &RuleTable)
-        requires { Allowed self.old left right rule.now }
-        ensures { Replaced self.old left right rule.now self.new }
+    // Answers the places of the new cells.
+    pub(crate) fn replace(&mut self, left: u16, right: u16, rule: &RuleTable) -> [u16; 4]
+        requires { Replaceable self.old left right rule.now }
+        ensures { Replaced self.old left right rule.now result self.new }
     {
         let a = byte(&self.arities, left as usize);
         let b = byte(&self.arities, right as usize);
@@ -89,6 +90,7 @@ impl Table {
         fill(&mut self.kinds, &rule.kinds, rule.cells, &places);
         fill(&mut self.arities, &rule.arities, rule.cells, &places);
         self.loops = self.loops + first + second;
+        places
     }
 }
 
@@ -100,7 +102,7 @@ fn order(left: u16, right: u16) -> u16
 }
 
 // The byte in a place.
-fn byte(items: &Vec<u8>, at: usize) -> u8
+pub(crate) fn byte(items: &Vec<u8>, at: usize) -> u8
     requires { at < vec_len items.now }
     ensures { result ≡ slice_index items.now.items at }
 {

@@ -1,10 +1,11 @@
 // Where the new cells of a rewrite stand.
 ghost use Rattle.std.specs.Prelude.{◌≡◌, ◌+◌, ◌<◌, ◌≤◌, true, vec_len};
-ghost use Rattle.nets.specs.Rewiring.{Places, Filled, place};
+ghost use Rattle.nets.specs.ByBook.{seat};
+ghost use Rattle.nets.specs.Rewiring.{Places, Filled};
 ghost use Rattle.nets.specs.Seating.{bits_below, Flipped, FlippedIf, Highest, Taken, Seated};
 
-// The places of the new cells, which are marked as occupied, and the scratch rows of L and R; the pair's places that no new cell takes are marked as vacant.
-pub(crate) fn take_places(map: &mut [u8; 128], left: u16, right: u16, cells: u8) -> [u16; 6]
+// The places of the new cells, which are marked as occupied; the pair's places that no new cell takes are marked as vacant.
+pub(crate) fn take_places(map: &mut [u8; 128], left: u16, right: u16, cells: u8) -> [u16; 4]
     requires first { left < 1024 }
     requires second { right < 1024 }
     requires few { cells ≤ 4 }
@@ -17,7 +18,7 @@ pub(crate) fn take_places(map: &mut [u8; 128], left: u16, right: u16, cells: u8)
     flip_if(map, high, cells < 2);
     let third = take_vacant(map, 2 < cells);
     let fourth = take_vacant(map, 3 < cells);
-    [low, high, third, fourth, 1028, 1029]
+    [low, high, third, fourth]
 }
 
 // Turns the bit of a place if that is wanted.
@@ -70,10 +71,10 @@ fn highest_vacant(map: &[u8; 128]) -> Option<u16>
 }
 
 // Writes the first n values at the first n places.
-pub(crate) fn fill(items: &mut Vec<u8>, values: &[u8; 4], n: u8, places: &[u16; 6])
+pub(crate) fn fill(items: &mut Vec<u8>, values: &[u8; 4], n: u8, places: &[u16; 4])
     requires long { vec_len items.old ≡ 1024 }
     requires few { n ≤ 4 }
-    requires places { Places (place places.now) n }
+    requires places { Places (seat places.now) n }
     ensures { Filled items.old.items values.now n places.now items.new.items }
 {
     for i in 0..n {

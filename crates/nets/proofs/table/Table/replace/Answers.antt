@@ -1,6 +1,7 @@
 use Rattle.std.proofs.Common.{◌≡◌, ◌+◌, ◌≤◌, vec_items, vec_len, sym, refl, ◌∙◌, arith}
 use Rattle.nets.specs.Meaning.{Content, content}
-use Rattle.nets.specs.Rewiring.{Places, place}
+use Rattle.nets.specs.Rewiring.{Places}
+use Rattle.nets.specs.ByBook.{seat}
 use Rattle.nets.specs.Rewrites.{ports_at}
 use Rattle.nets.proofs.Counting.{cells_are}
 use Rattle.nets.proofs.Seatings.{turn_small, places}
@@ -27,7 +28,7 @@ take_places-places-requires c =
     record {
       first = p_low c.args.self.now c.args.left c.args.right c.requires.facing;
       second = q_low c.args.self.now c.args.left c.args.right c.requires.facing;
-      few = c.requires.suits.fitting.few;
+      few = c.requires.fitting.few;
       room = omega arith;
     }
 
@@ -58,32 +59,31 @@ clear-low-requires c =
     }
 
 -- the places of the new cells
-seats : (c : After-take_places-places) → Places (place c.take_places-places.result) c.args.rule.now.cells
+seats : (c : After-take_places-places) → Places (seat c.take_places-places.result) c.args.rule.now.cells
 seats c =
     places c.args.left c.args.right c.args.rule.now.cells c.args.self.now.occupied c.take_places-places.result c.take_places-places.new.map c.take_places-places.ensures
-    c.requires.suits.fitting.few c.requires.facing.1
+    c.requires.fitting.few c.requires.facing.1
     (p_low c.args.self.now c.args.left c.args.right c.requires.facing) (q_low c.args.self.now c.args.left c.args.right c.requires.facing)
     (p_on c.args.self.now c.args.left c.args.right c.requires.facing) (q_on c.args.self.now c.args.left c.args.right c.requires.facing)
 
 pub lay-requires : goal.lay-requires
 lay-requires c = record {
   whole = c.clear-low.ensures.whole;
-  room = room_of (ports_at c.args.self.now c.args.left) (ports_at c.args.self.now c.args.right) c.args.rule.now c.requires.suits.fitting
-      (c.args.self.now.ports c.args.left) (c.args.self.now.ports c.args.right) c.take_places-places.result (seats (goal.at.lay-requires c).After-take_places-places)
-      c.take_places-places.ensures.left c.take_places-places.ensures.right;
+  room = room_of (ports_at c.args.self.now c.args.left) (ports_at c.args.self.now c.args.right) c.args.rule.now c.requires.fitting
+      (c.args.self.now.ports c.args.left) (c.args.self.now.ports c.args.right) c.take_places-places.result (seats (goal.at.lay-requires c).After-take_places-places);
 }
 
 pub fill-requires : goal.fill-requires
 fill-requires c = record {
   long = c.args.self.now.kinds.ok.0 ∙ c.args.self.now.every;
-  few = c.requires.suits.fitting.few;
+  few = c.requires.fitting.few;
   places = seats (goal.at.fill-requires c).After-take_places-places;
 }
 
 pub fill-requires-2 : goal.fill-requires-2
 fill-requires-2 c = record {
   long = c.args.self.now.arities.ok.0 ∙ c.args.self.now.all;
-  few = c.requires.suits.fitting.few;
+  few = c.requires.fitting.few;
   places = seats (goal.at.fill-requires-2 c).After-take_places-places;
 }
 
@@ -146,7 +146,6 @@ returns c =
     let Y = c.requires in
     λ K i w laws ofb dep act. (
       record {
-        place = place c.take_places-places.result;
         seats = seats_K s p q r Y (after e) (did e) K w i laws ofb dep act;
         rewriting = rewriting_K s p q r Y (after e) (did e) K w i laws ofb dep act;
         of_book = of_book_K s p q r Y (after e) (did e) K w i laws ofb dep act;
