@@ -1,15 +1,15 @@
 -- Counting the uses of a term with names. Assumes nothing.
-use Rattle.std.proofs.Common.{◌≡◌, ℕ, zero, suc, ◌+◌, ◌<◌, ◌≤◌, Bool, true, false, cond, ◌≢◌, ◌⊎◌, List, [], ◌∷◌, ◌++◌, length, get_or, sym, refl, ap, ◌∙◌, subst, inl, inr, arith}
+use Rattle.std.proofs.Common.{◌≡◌, ℕ, suc, ◌+◌, ◌<◌, ◌≤◌, true, false, cond, ◌≢◌, ◌⊎◌, List, [], ◌∷◌, ◌++◌, length, sym, refl, ap, ◌∙◌, subst, inl, inr, arith}
 use Rattle.std.specs.List.{ContainsAt as Has}
 use Rattle.std.specs.Str.{bytes_eq}
 use Rattle.std.proofs.ByRecursion.{has_append_right}
 use Rattle.std.proofs.lemmas.Slice.Eq.{bytes_eq-Decides}
 use Rattle.std.proofs.lemmas.List.{length-append}
-use Rattle.std.proofs.lemmas.Bool.{cases_lt, cases_Bool, cond-true, cond-false, cond_both}
+use Rattle.std.proofs.lemmas.Bool.{cases_lt, cases_Bool, cond-true, cond-false}
 use Rattle.lambda.specs.Terms.{one}
 use Rattle.lambda.proofs.Counts.{number, one_yes, one_no}
-use Rattle.terms.specs.Named.{Named, bound, item, lam, app, written, items}
-use Rattle.terms.specs.Bindings.{Meaning, variable, listed, nothing, Around, meaning, uses, binders, LinearNamed}
+use Rattle.terms.specs.Named.{Named, bound, item, lam, app, written}
+use Rattle.terms.specs.Bindings.{Meaning, variable, listed, nothing, Around, uses, binders, LinearNamed}
 use Rattle.terms.specs.Tallying.{Uses}
 use Rattle.terms.proofs.Single.{has_append, has_one}
 

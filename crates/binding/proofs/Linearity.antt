@@ -1,19 +1,19 @@
 -- A linear term with names stands for a linear term without names. Assumes nothing.
-use Rattle.std.proofs.Common.{◌≡◌, ℕ, zero, suc, pred, ◌+◌, ◌<◌, ◌≤◌, Bool, true, false, cond, ◌≢◌, ◌⊎◌, List, [], ◌∷◌, ◌++◌, length, get_or, sym, refl, ap, ◌∙◌, subst, inl, inr, arith}
+use Rattle.std.proofs.Common.{◌≡◌, ℕ, zero, suc, ◌+◌, ◌<◌, ◌≤◌, Bool, true, false, cond, ◌≢◌, ◌⊎◌, List, [], ◌∷◌, ◌++◌, length, get_or, sym, refl, ap, ◌∙◌, subst, inl, inr, arith}
 use Rattle.std.specs.List.{ContainsAt as Has}
 use Rattle.std.specs.Str.{bytes_eq}
 use Rattle.std.proofs.ByRecursion.{has_append_left, has_append_right, has_get_or}
 use Rattle.std.proofs.lemmas.List.{length-append}
 use Rattle.std.proofs.lemmas.Slice.Eq.{bytes_eq-Decides}
-use Rattle.std.proofs.lemmas.Bool.{cases_lt, cases_Bool, cases_eq, cases_order, cond-true, cond-false, both_ways}
-use Rattle.lambda.specs.Terms.{Term, one, stands, binds, Once, Linear}
-use Rattle.lambda.specs.Terms.{uses as uses-of, cells as cells_at}
+use Rattle.std.proofs.lemmas.Bool.{cases_lt, cases_Bool, cases_order, cond-true, cond-false, both_ways}
+use Rattle.lambda.specs.Terms.{one, stands, binds, Once}
+use Rattle.lambda.specs.Terms.{uses as uses_of}
 use Rattle.lambda.proofs.Counts.{number, one_yes, one_no}
 use Rattle.terms.specs.Named.{Named, bound, item, lam, app, written, cells, items}
-use Rattle.terms.specs.Bindings.{Meaning, variable, listed, nothing, Around, meaning, uses, binders, LinearNamed, place_of, rank-of, placed, term-under}
+use Rattle.terms.specs.Bindings.{Meaning, variable, Around, meaning, uses, binders, place_of, rank_of, placed_under, term_under}
 use Rattle.terms.proofs.Outcomes.{binder_inside}
-use Rattle.binding.specs.Theorems.{Lists, LinearTerms, OwnItems}
-use Rattle.binding.proofs.Counting.{has_cons, has_first, has_later, total, total_append, of_variable, of_item, of_nothing, same_yes, same_no, variable_once, item_once, all_bound}
+use Rattle.binding.specs.Theorems.{LinearTerms, OwnItems}
+use Rattle.binding.proofs.Counting.{has_cons, has_first, has_later, total, total_append, of_variable, of_item, of_nothing, same_yes, variable_once, item_once, all_bound}
 use Rattle.binding.proofs.Places.{placed_outside, placed_inside}
 
 -- ── variables ──
@@ -88,7 +88,7 @@ absent (app f a) es p q h s n =
 module _ (is : List (List ℕ)) where
   -- a variable is used as often as its name is
   counted : (t : Named) (es fs : Around) (p c q r : ℕ) → Agree es fs q r → q ≤ p → r < c → total of_nothing (uses es p t) ≡ 0 →
-      total (of_variable q) (uses es p t) ≡ uses-of r (placed is c fs t)
+      total (of_variable q) (uses es p t) ≡ uses_of r (placed_under is c fs t)
   counted (bound w) es fs p c q r h l m n = let k = h w (omega arith) in omega arith
   counted (item w) es fs p c q r h l m n = refl
   counted (lam v b) es fs p c q r h l m n =
@@ -100,7 +100,7 @@ module _ (is : List (List ℕ)) where
       let y = counted a es fs (p + (length (written f) + 2)) (suc (c + cells f)) q r h (omega arith) (omega arith) (omega arith) in
       omega arith
 
-  once : (t : Named) (es fs : Around) (p c : ℕ) → Low es fs p c → total of_nothing (uses es p t) ≡ 0 → ((q : ℕ) → Has (binders p t) q → total (of_variable q) (uses es p t) ≡ 1) → Once (placed is c fs t)
+  once : (t : Named) (es fs : Around) (p c : ℕ) → Low es fs p c → total of_nothing (uses es p t) ≡ 0 → ((q : ℕ) → Has (binders p t) q → total (of_variable q) (uses es p t) ≡ 1) → Once (placed_under is c fs t)
   once (bound w) es fs p c l n h = tt
   once (item w) es fs p c l n h = tt
   once (lam v b) es fs p c l n h = (
@@ -140,14 +140,14 @@ module _ (is : List (List ℕ)) where
 
   -- a variable is used as often as it is bound, unless it is that of an abstraction around
   closed : (t : Named) (es fs : Around) (p c r : ℕ) → ((w : List ℕ) → of_nothing (meaning w es) ≡ 0 → place_of w fs ≢ r) → total of_nothing (uses es p t) ≡ 0 →
-      Once (placed is c fs t) → uses-of r (placed is c fs t) ≡ binds r (placed is c fs t)
+      Once (placed_under is c fs t) → uses_of r (placed_under is c fs t) ≡ binds r (placed_under is c fs t)
   closed (bound w) es fs p c r h n o = one_no r (place_of w fs) (λ e. h w (omega arith) (sym e))
   closed (item w) es fs p c r h n o = refl
   closed (lam v b) es fs p c r h n o = elim (number r c) [
     | inl e ↦ (
         let z = e.0 in
         let y = one_yes r c e.0 in
-        let x = subst (λ k. uses-of k (placed is (suc c) ((v, c) ∷ fs) b) ≡ 1) (sym e.0) o.0 in
+        let x = subst (λ k. uses_of k (placed_under is (suc c) ((v, c) ∷ fs) b) ≡ 1) (sym e.0) o.0 in
         let i = placed_outside is b (suc c) ((v, c) ∷ fs) r (inl (omega arith)) in
         omega arith)
     | inr e ↦ (
@@ -174,7 +174,7 @@ copies w (v ∷ ws) = cond (bytes_eq w v) 1 0 + copies w ws
 
 abbrev numbered : List (List ℕ) → ℕ → List (List ℕ) → ℕ
 numbered is k [] = 0
-numbered is k (v ∷ ws) = one k (suc (rank-of v is)) + numbered is k ws
+numbered is k (v ∷ ws) = one k (suc (rank_of v is)) + numbered is k ws
 
 copies_append : (w : List ℕ) (xs ys : List (List ℕ)) → copies w (xs ++ ys) ≡ copies w xs + copies w ys
 copies_append w [] ys = omega arith
@@ -203,7 +203,7 @@ item_uses w (app f a) es p =
     let y = item_uses w a es (p + (length (written f) + 2)) in
     omega arith
 
-stands_items : (is : List (List ℕ)) (k : ℕ) (t : Named) (c : ℕ) (fs : Around) → stands k (placed is c fs t) ≡ numbered is k (items t)
+stands_items : (is : List (List ℕ)) (k : ℕ) (t : Named) (c : ℕ) (fs : Around) → stands k (placed_under is c fs t) ≡ numbered is k (items t)
 stands_items is k (bound w) c fs = refl
 stands_items is k (item w) c fs = omega arith
 stands_items is k (lam w b) c fs = stands_items is k b (suc c) ((w, c) ∷ fs)
@@ -230,12 +230,12 @@ copies_two (w ∷ ws) zero (suc j) l h e =
 copies_two (w ∷ ws) (suc i) (suc j) l h e = let k = copies_two ws i j (omega arith) (omega arith) e in omega arith
 
 -- the item that has a rank stands there
-pub rank_there : (w : List ℕ) (is : List (List ℕ)) → Has is w → (rank-of w is < length is) × (get_or is (rank-of w is) [] ≡ w)
+pub rank_there : (w : List ℕ) (is : List (List ℕ)) → Has is w → (rank_of w is < length is) × (get_or is (rank_of w is) [] ≡ w)
 rank_there w [] h = absurd (omega (arith, h.1))
 rank_there w (v ∷ is) h = go (bytes_eq w v) refl (rank_there w is)
   where
-    go : (b : Bool) → bytes_eq w v ≡ b → (Has is w → (rank-of w is < length is) × (get_or is (rank-of w is) [] ≡ w)) →
-        (cond b 0 (suc (rank-of w is)) < suc (length is)) × (get_or (v ∷ is) (cond b 0 (suc (rank-of w is))) [] ≡ w)
+    go : (b : Bool) → bytes_eq w v ≡ b → (Has is w → (rank_of w is < length is) × (get_or is (rank_of w is) [] ≡ w)) →
+        (cond b 0 (suc (rank_of w is)) < suc (length is)) × (get_or (v ∷ is) (cond b 0 (suc (rank_of w is))) [] ≡ w)
     go true e k = (omega arith, sym ((bytes_eq-Decides w v).0 e))
     go false e k = elim (has_cons v is w h) [
       | inl s ↦ absurd (both_ways (bytes_eq w w) (subst (λ x. bytes_eq w x ≡ false) s e) (same_yes w))
@@ -243,10 +243,10 @@ rank_there w (v ∷ is) h = go (bytes_eq w v) refl (rank_there w is)
     ]
 
 -- an item's rank in a list that has it once
-pub rank_is : (is : List (List ℕ)) → ((i j : ℕ) → i < j → j < length is → get_or is i [] ≡ get_or is j [] → ⊥) → (i : ℕ) → i < length is → rank-of (get_or is i []) is ≡ i
+pub rank_is : (is : List (List ℕ)) → ((i j : ℕ) → i < j → j < length is → get_or is i [] ≡ get_or is j [] → ⊥) → (i : ℕ) → i < length is → rank_of (get_or is i []) is ≡ i
 rank_is is once i l =
     let r = rank_there (get_or is i []) is (has_get_or is i [] l) in
-    elim (cases_order (rank-of (get_or is i []) is) i) [
+    elim (cases_order (rank_of (get_or is i []) is) i) [
       | inl e ↦ e
       | inr (inl k) ↦ absurd (once _ i k l r.1)
       | inr (inr k) ↦ absurd (once i _ k r.0 (sym r.1))
@@ -262,21 +262,21 @@ module _ (is : List (List ℕ)) (once : (i j : ℕ) → i < j → j < length is 
       elim (cases_Bool (bytes_eq (get_or is i []) v)) [
         | inl e ↦ (
             let s : get_or is i [] ≡ v = (bytes_eq-Decides (get_or is i []) v).0 e in
-            let n : rank-of v is ≡ i = ap (λ x. rank-of x is) (sym s) ∙ rank_is is once i l in
-            let y = one_yes (suc i) (suc (rank-of v is)) (ap suc (sym n)) in
+            let n : rank_of v is ≡ i = ap (λ x. rank_of x is) (sym s) ∙ rank_is is once i l in
+            let y = one_yes (suc i) (suc (rank_of v is)) (ap suc (sym n)) in
             let z = cond-true {A = ℕ} (bytes_eq (get_or is i []) v) 1 0 e in
             omega arith)
         | inr e ↦ (
-            let y = one_no (suc i) (suc (rank-of v is)) (λ s. let n : i ≡ rank-of v is = omega arith in let d = (bytes_eq-Decides (get_or is i []) v).1 (ap (λ x. get_or is x []) n ∙ r.1) in let x : ◌≡◌ {A = ℕ} 0 1 = cc in omega arith) in
+            let y = one_no (suc i) (suc (rank_of v is)) (λ s. let n : i ≡ rank_of v is = omega arith in let d = (bytes_eq-Decides (get_or is i []) v).1 (ap (λ x. get_or is x []) n ∙ r.1) in let x : ◌≡◌ {A = ℕ} 0 1 = cc in omega arith) in
             let z = cond-false {A = ℕ} (bytes_eq (get_or is i []) v) 1 0 e in
             omega arith)
       ]
 
-numbered_some : (is : List (List ℕ)) (k : ℕ) (ws : List (List ℕ)) → 1 ≤ numbered is k ws → (v : List ℕ) × Has ws v × (k ≡ suc (rank-of v is))
+numbered_some : (is : List (List ℕ)) (k : ℕ) (ws : List (List ℕ)) → 1 ≤ numbered is k ws → (v : List ℕ) × Has ws v × (k ≡ suc (rank_of v is))
 numbered_some is k [] h = absurd (omega arith)
-numbered_some is k (v ∷ ws) h = elim (number k (suc (rank-of v is))) [
+numbered_some is k (v ∷ ws) h = elim (number k (suc (rank_of v is))) [
   | inl e ↦ (v, has_first v ws, e.0)
-  | inr e ↦ (let z = one_no k (suc (rank-of v is)) e.0 in let i = numbered_some is k ws (omega arith) in (i.0, has_later v ws i.0 i.1, i.2))
+  | inr e ↦ (let z = one_no k (suc (rank_of v is)) e.0 in let i = numbered_some is k ws (omega arith) in (i.0, has_later v ws i.0 i.1, i.2))
 ]
 
 -- ── both together ──
@@ -298,10 +298,10 @@ linear_terms_lem is t l li = record {
       (omega arith, omega (arith, r.0));
 }
   where
-    all_once : Once (term-under is t)
+    all_once : Once (term_under is t)
     all_once = once is t [] [] 0 0 (λ w n. absurd (omega arith)) (all_bound t l) (variable_once t l)
 
-    at : (k : ℕ) → 1 ≤ k → k ≤ length is → stands k (term-under is t) ≡ 1
+    at : (k : ℕ) → 1 ≤ k → k ≤ length is → stands k (term_under is t) ≡ 1
     at zero h m = absurd (omega arith)
     at (suc i) h m =
         let w : List ℕ = get_or is i [] in

@@ -6,7 +6,7 @@ use Rattle.lambda.specs.Indices.{upto}
 use Rattle.lambda.proofs.Counts.{number, one_yes, one_no}
 use Rattle.std.proofs.lemmas.Bool.{cases_lt}
 use Rattle.terms.specs.Named.{Named, bound, item, lam, app, cells}
-use Rattle.terms.specs.Bindings.{Around, placed}
+use Rattle.terms.specs.Bindings.{Around, placed_under}
 use Rattle.binding.specs.Theorems.{TextPlaces}
 
 upto-append : (c m n : ℕ) → upto c (m + n) ≡ upto c m ++ upto (c + m) n
@@ -17,7 +17,7 @@ upto-append c (suc m) n =
     ap (upto c) e ∙ ap (λ l. c ∷ l) (upto-append (suc c) m n ∙ ap (λ k. upto (suc c) m ++ upto k n) f)
 
 module _ (is : List (List ℕ)) where
-  pub places_placed : (t : Named) (c : ℕ) (es : Around) → places (placed is c es t) ≡ upto c (cells t)
+  pub places_placed : (t : Named) (c : ℕ) (es : Around) → places (placed_under is c es t) ≡ upto c (cells t)
   places_placed (bound w) c es = refl
   places_placed (item w) c es = refl
   places_placed (lam w b) c es = ap (λ l. c ∷ l) (places_placed b (suc c) ((w, c) ∷ es))
@@ -27,7 +27,7 @@ module _ (is : List (List ℕ)) where
       ∙ sym (upto-append (suc c) (cells f) (cells a)))
 
   -- a place before its cells, or after them
-  pub placed_outside : (t : Named) (c : ℕ) (es : Around) (r : ℕ) → (r < c) ⊎ (c + cells t ≤ r) → cells_at r (placed is c es t) ≡ 0
+  pub placed_outside : (t : Named) (c : ℕ) (es : Around) (r : ℕ) → (r < c) ⊎ (c + cells t ≤ r) → cells_at r (placed_under is c es t) ≡ 0
   placed_outside (bound w) c es r h = refl
   placed_outside (item w) c es r h = refl
   placed_outside (lam w b) c es r (inl h) =
@@ -50,7 +50,7 @@ module _ (is : List (List ℕ)) where
       omega arith
 
   -- one of the places of its cells
-  pub placed_inside : (t : Named) (c : ℕ) (es : Around) (r : ℕ) → c ≤ r → r < c + cells t → cells_at r (placed is c es t) ≡ 1
+  pub placed_inside : (t : Named) (c : ℕ) (es : Around) (r : ℕ) → c ≤ r → r < c + cells t → cells_at r (placed_under is c es t) ≡ 1
   placed_inside (bound w) c es r l h = absurd (omega arith)
   placed_inside (item w) c es r l h = absurd (omega arith)
   placed_inside (lam w b) c es r l h = elim (number r c) [

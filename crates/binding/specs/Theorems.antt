@@ -4,7 +4,7 @@ use Rattle.std.specs.List.{ContainsAt as Has}
 use Rattle.lambda.specs.Terms.{places, Linear}
 use Rattle.lambda.specs.Indices.{upto}
 use Rattle.terms.specs.Named.{Named, cells, items}
-use Rattle.terms.specs.Bindings.{LinearNamed, term-under}
+use Rattle.terms.specs.Bindings.{LinearNamed, term_under}
 
 -- the list has each item of the term once, and no other
 pub record Lists (is : List (List ℕ)) (t : Named) : Type 0 where
@@ -14,7 +14,7 @@ pub record Lists (is : List (List ℕ)) (t : Named) : Type 0 where
 
 -- a linear term with names stands for a linear term without names, under any list of its items
 abbrev pub LinearTerms : Type 0
-LinearTerms = (is : List (List ℕ)) (t : Named) → LinearNamed t → Lists is t → Linear (length is) (term-under is t)
+LinearTerms = (is : List (List ℕ)) (t : Named) → LinearNamed t → Lists is t → Linear (length is) (term_under is t)
 
 -- its items in text order are such a list
 abbrev pub OwnItems : Type 0
@@ -22,4 +22,4 @@ OwnItems = (t : Named) → LinearNamed t → Lists (items t) t
 
 -- its cells are in the places 0, 1, 2 and on, in text order
 abbrev pub TextPlaces : Type 0
-TextPlaces = (is : List (List ℕ)) (t : Named) → places (term-under is t) ≡ upto 0 (cells t)
+TextPlaces = (is : List (List ℕ)) (t : Named) → places (term_under is t) ≡ upto 0 (cells t)

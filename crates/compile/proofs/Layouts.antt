@@ -1,12 +1,12 @@
 -- The links that are to come, from one step of a walk to the next.
-use Rattle.std.proofs.Common.{◌≡◌, ℕ, suc, ◌+◌, ◌-◌, ◌<◌, ◌≤◌, Bool, true, false, cond, ◌≢◌, List, [], ◌∷◌, ◌++◌, length, get_or, set, sym, refl, ap, ◌∙◌, subst, ap₂, append_assoc, arith, get_or-set_other, get_or-set_same}
+use Rattle.std.proofs.Common.{◌≡◌, ℕ, suc, ◌+◌, ◌-◌, ◌<◌, ◌≤◌, Bool, true, false, cond, ◌≢◌, List, [], ◌∷◌, ◌++◌, length, get_or, set, sym, refl, ap, ◌∙◌, ap₂, append_assoc, arith, get_or-set_other, get_or-set_same}
 use Rattle.std.specs.Str.{bytes_eq}
 use Rattle.calculus.specs.Spots.{Spot, end, port}
 use Rattle.lambda.specs.TermNets.{links}
 use Rattle.terms.specs.Named.{Named, bound, item, lam, app, cells}
-use Rattle.terms.specs.Bindings.{Meaning, variable, nothing, Around, meaning, place_of, rank-of, placed}
+use Rattle.terms.specs.Bindings.{Meaning, variable, Around, meaning, place_of, rank_of, placed_under}
 use Rattle.terms.specs.Scopes.{Surrounding, renumbered}
-use Rattle.terms.specs.Walking.{Later, due, shut, outer, reading, between, Saved}
+use Rattle.terms.specs.Walking.{Later, due, shut, reading, between, Saved}
 use Rattle.compile.specs.Building.{Scope, later_links, coming_links}
 
 -- a name that means an abstraction has its number
@@ -31,7 +31,7 @@ module _ (is : List (List ℕ)) (text xs binders saved opened : List ℕ) where
   later_binders e v [] most d c l h = refl
   later_binders e v (due es a ∷ zs) most d c l h =
       let b = h.1 in
-      ap₂ (λ fs ls. links (port (get_or opened (d - 1) 0) 2) (placed is c fs a) ++ ls) (renumbered_kept text xs binders e v es (get_or saved (d - 1) 0) (omega arith) h.2)
+      ap₂ (λ fs ls. links (port (get_or opened (d - 1) 0) 2) (placed_under is c fs a) ++ ls) (renumbered_kept text xs binders e v es (get_or saved (d - 1) 0) (omega arith) h.2)
       (later_binders e v zs (get_or saved (d - 1) 0) (d - 1) (c + cells a) (omega arith) h.3)
   later_binders e v (shut es ∷ zs) most d c l h = let b = h.1 in later_binders e v zs (get_or saved (d - 1) 0) (d - 1) c (omega arith) h.3
 
@@ -41,8 +41,8 @@ module _ (is : List (List ℕ)) (text xs binders saved opened : List ℕ) where
       let ne : d - 1 ≢ e = omega (arith, h.0) in
       let s : get_or (set saved e v) (d - 1) 0 ≡ get_or saved (d - 1) 0 = rw get_or-set_other in
       let o : get_or (set opened e w) (d - 1) 0 ≡ get_or opened (d - 1) 0 = rw get_or-set_other in
-      ap₂ (λ k m. links (port k 2) (placed is c (renumbered binders m es) a) ++ later_links is binders (set saved e v) (set opened e w) (d - 1) (c + cells a) zs) o s
-      ∙ ap (λ ls. links (port (get_or opened (d - 1) 0) 2) (placed is c (renumbered binders (get_or saved (d - 1) 0) es) a) ++ ls)
+      ap₂ (λ k m. links (port k 2) (placed_under is c (renumbered binders m es) a) ++ later_links is binders (set saved e v) (set opened e w) (d - 1) (c + cells a) zs) o s
+      ∙ ap (λ ls. links (port (get_or opened (d - 1) 0) 2) (placed_under is c (renumbered binders (get_or saved (d - 1) 0) es) a) ++ ls)
       (later_stacks e v w zs (get_or saved (d - 1) 0) (d - 1) (c + cells a) (omega arith) h.3)
   later_stacks e v w (shut es ∷ zs) most d c l h = later_stacks e v w zs (get_or saved (d - 1) 0) (d - 1) c (omega arith) h.3
 
@@ -75,8 +75,8 @@ module _ (is : List (List ℕ)) (text : List ℕ) (s : Scope) (x : Spot) (c : �
       ap (λ m. renumbered (set s.binders s.inner c) m es) back ∙ renumbered_kept text s.around s.binders s.inner c es s.inner (omega arith) h in
       let fs : (n, c) ∷ renumbered s.binders s.inner es ≡ renumbered (set s.binders s.inner c) (s.inner + 1) ((n, q) ∷ es) = ap₂ (λ m r. (n, m) ∷ r) (sym top) (sym under) in
       let after : c + suc (cells b) ≡ c + 1 + cells b = omega arith in
-      ap (λ ls. (x, port c 0) ∷ ls) (ap₂ (λ m gs. links (port c 2) (placed is m gs b) ++ later_links is s.binders s.saved s.opened s.depth (c + suc (cells b)) zs) one fs
-      ∙ ap (λ ls. links (port c 2) (placed is (c + 1) (renumbered (set s.binders s.inner c) (s.inner + 1) ((n, q) ∷ es)) b) ++ ls)
+      ap (λ ls. (x, port c 0) ∷ ls) (ap₂ (λ m gs. links (port c 2) (placed_under is m gs b) ++ later_links is s.binders s.saved s.opened s.depth (c + suc (cells b)) zs) one fs
+      ∙ ap (λ ls. links (port c 2) (placed_under is (c + 1) (renumbered (set s.binders s.inner c) (s.inner + 1) ((n, q) ∷ es)) b) ++ ls)
       (ap (λ m. later_links is s.binders s.saved s.opened s.depth m zs) after
       ∙ sym (later_binders is text s.around s.binders s.saved s.opened s.inner c zs s.inner s.depth (c + 1 + cells b) (omega arith) k)))
 
@@ -90,10 +90,10 @@ module _ (is : List (List ℕ)) (text : List ℕ) (s : Scope) (x : Spot) (c : �
       let top : c ≡ get_or (set s.opened s.depth c) (s.depth + 1 - 1) 0 = rw back (rw get_or-set_same) in
       let kept : s.inner ≡ get_or (set s.saved s.depth s.inner) (s.depth + 1 - 1) 0 = rw back (rw get_or-set_same) in
       let fs : Around = renumbered s.binders s.inner es in
-      ap (λ ls. (x, port c 1) ∷ ls) (append_assoc (links (port c 0) (placed is (suc c) (renumbered s.binders s.inner es) f)) (links (port c 2) (placed is (suc (c + cells f)) (renumbered s.binders s.inner es) a)) _
-      ∙ ap₂ (λ m r. links (port c 0) (placed is m (renumbered s.binders s.inner es) f) ++ r) one
-      (ap₂ (λ m k. links (port k 2) (placed is m (renumbered s.binders s.inner es) a) ++ later_links is s.binders s.saved s.opened s.depth (c + suc (cells f + cells a)) zs) here top
-      ∙ ap₂ (λ i ls. links (port (get_or (set s.opened s.depth c) (s.depth + 1 - 1) 0) 2) (placed is (c + 1 + cells f) (renumbered s.binders i es) a) ++ ls) kept
+      ap (λ ls. (x, port c 1) ∷ ls) (append_assoc (links (port c 0) (placed_under is (suc c) (renumbered s.binders s.inner es) f)) (links (port c 2) (placed_under is (suc (c + cells f)) (renumbered s.binders s.inner es) a)) _
+      ∙ ap₂ (λ m r. links (port c 0) (placed_under is m (renumbered s.binders s.inner es) f) ++ r) one
+      (ap₂ (λ m k. links (port k 2) (placed_under is m (renumbered s.binders s.inner es) a) ++ later_links is s.binders s.saved s.opened s.depth (c + suc (cells f + cells a)) zs) here top
+      ∙ ap₂ (λ i ls. links (port (get_or (set s.opened s.depth c) (s.depth + 1 - 1) 0) 2) (placed_under is (c + 1 + cells f) (renumbered s.binders i es) a) ++ ls) kept
       (ap (λ m. later_links is s.binders s.saved s.opened s.depth m zs) after
       ∙ sym (later_stacks is text s.around s.binders s.saved s.opened s.depth s.inner c zs s.inner s.depth (c + 1 + cells f + cells a) (omega arith) k)
       ∙ ap (λ d. later_links is s.binders (set s.saved s.depth s.inner) (set s.opened s.depth c) d (c + 1 + cells f + cells a) zs) (sym back))))
@@ -104,7 +104,7 @@ module _ (is : List (List ℕ)) (text : List ℕ) (s : Scope) (x : Spot) (c : �
       let none : c + 0 ≡ c = omega arith in
       ap₂ (λ k m. (x, port k 1) ∷ later_links is s.binders s.saved s.opened s.depth m zs) e none
 
-  pub links_item : (es : Around) (n : List ℕ) (zs : List Later) (k : ℕ) → suc (rank-of n is) ≡ k →
+  pub links_item : (es : Around) (n : List ℕ) (zs : List Later) (k : ℕ) → suc (rank_of n is) ≡ k →
       coming_links is s x c (reading es (item n) zs) ≡ (x, end k) ∷ coming_links is s x c (between zs)
   links_item es n zs k e =
       let none : c + 0 ≡ c = omega arith in

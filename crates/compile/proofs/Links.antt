@@ -1,6 +1,6 @@
 -- Plans in which links are named both ways.
-use Rattle.std.proofs.Common.{◌≡◌, ℕ, suc, ◌+◌, ◌<◌, ◌≤◌, Bool, true, false, ◌&&◌, ltb, leb, ◌≢◌, ◌⊎◌, List, [], ◌∷◌, ◌++◌, sym, refl, ap, ◌∙◌, subst, inl, inr, arith}
-use Rattle.std.specs.List.{AllByRecursion as All}
+use Rattle.std.proofs.Common.{◌≡◌, ℕ, ◌+◌, ◌<◌, ◌≤◌, true, ltb, leb, ◌≢◌, List, [], ◌∷◌, ◌++◌, ap, ◌∙◌, subst, inl, inr, arith}
+use Rattle.std.specs.List.{AllByRecursion}
 use Rattle.std.proofs.ByRecursion.{All-push, All-weaker}
 use Rattle.std.proofs.lemmas.Bool.{lt-ltb, le-leb, ltb-true, leb-true, and_from, and_parts, cases_eq}
 use Rattle.calculus.specs.Spots.{Spot, end, port}
@@ -68,7 +68,7 @@ out_at : (x : Spot) (ls : List (Spot × Spot)) (l : Spot × Spot) (rest : List (
 out_at x [] l rest o = (o.0, o.1)
 out_at x (k ∷ ls) l rest o = out_at x ls l rest o.2
 
-pub distinct_front : (ls : List (Spot × Spot)) (l : Spot × Spot) (rest : List (Spot × Spot)) → Distinct (ls ++ l ∷ rest) → All (Off l) ls × (l.0 ≢ l.1)
+pub distinct_front : (ls : List (Spot × Spot)) (l : Spot × Spot) (rest : List (Spot × Spot)) → Distinct (ls ++ l ∷ rest) → AllByRecursion (Off l) ls × (l.0 ≢ l.1)
 distinct_front [] l rest d = (tt, d.0)
 distinct_front (k ∷ ls) l rest d =
     let a = out_at k.0 ls l rest d.1 in
@@ -86,7 +86,7 @@ drafted_cell n c ls p q d h = record {
   named = All-weaker (BothWays p) (BothWays q) (λ l b. (h.links l.0 ∙ b.0, h.links l.1 ∙ b.1, planned_added p q γ 2 h l.0 b.2, planned_added p q γ 2 h l.1 b.3)) ls d.named;
 }
 
-both_kept : (p q : Plan) (x y : Spot) → Linked p x y q → (ls : List (Spot × Spot)) → All (Off (x, y)) ls → All (BothWays p) ls → All (BothWays q) ls
+both_kept : (p q : Plan) (x y : Spot) → Linked p x y q → (ls : List (Spot × Spot)) → AllByRecursion (Off (x, y)) ls → AllByRecursion (BothWays p) ls → AllByRecursion (BothWays q) ls
 both_kept p q x y h [] o b = tt
 both_kept p q x y h (l ∷ ls) o b =
     let (a, c, d, e) = o.0 in
@@ -95,7 +95,7 @@ both_kept p q x y h (l ∷ ls) o b =
       both_kept p q x y h ls o.1 b.1,
     )
 
-pub drafted_link : (n c : ℕ) (ls : List (Spot × Spot)) (p q : Plan) (x y : Spot) → Drafted n c ls p → planned p x ≡ true → planned p y ≡ true → All (Off (x, y)) ls → Linked p x y q → Drafted n c (ls ++ (x, y) ∷ []) q
+pub drafted_link : (n c : ℕ) (ls : List (Spot × Spot)) (p q : Plan) (x y : Spot) → Drafted n c ls p → planned p x ≡ true → planned p y ≡ true → AllByRecursion (Off (x, y)) ls → Linked p x y q → Drafted n c (ls ++ (x, y) ∷ []) q
 drafted_link n c ls p q x y d i j o h = record {
   ends = h.ends ∙ d.ends;
   loops = h.loops ∙ d.loops;

@@ -1,38 +1,38 @@
 -- The table of a draft in which all links of a linear term are named.
-use Rattle.std.proofs.Common.{◌≡◌, ℕ, suc, ◌+◌, ◌<◌, ◌≤◌, true, false, ltb, leb, ◌≢◌, ◌⊎◌, List, [], ◌∷◌, length, Some, None, sym, refl, ap, ◌∙◌, subst, inl, inr, arith}
+use Rattle.std.proofs.Common.{◌≡◌, ℕ, ◌<◌, ◌≤◌, true, false, ltb, leb, ◌≢◌, ◌⊎◌, List, [], ◌∷◌, length, Some, None, sym, ap, ◌∙◌, subst, inl, inr, arith}
 use mathlib.Core.Path.{fun_ext}
-use Rattle.std.specs.List.{AllByRecursion as All}
+use Rattle.std.specs.List.{AllByRecursion}
 use Rattle.std.proofs.lemmas.Bool.{lt-ltb, le-ltb, ltb-true, leb-true, and_parts, cond-true, cond-false, cases_lt, cases_Bool, both_ways}
 use Rattle.calculus.specs.Spots.{Spot, end, port}
 use Rattle.calculus.specs.Splicing.{Out}
 use Rattle.calculus.specs.Drawn.{linked}
 use Rattle.calculus.specs.Combinators.{γ, combinators}
-use Rattle.lambda.specs.Terms.{Term, Linear}
+use Rattle.lambda.specs.Terms.{Term}
 use Rattle.lambda.specs.TermNets.{links}
-use Rattle.lambda.specs.TermNets.{net as net-of-term}
+use Rattle.lambda.specs.TermNets.{net as net_of_term}
 use Rattle.lambda.proofs.Wirings.{In, occ, out_occ, Distinct, find, linked_in, linked_out}
 use Rattle.lambda.proofs.Good.{kind_yes, kind_none, mate_is, ends_are, no_loops, port_named, end_live, distinct_links}
 use Rattle.nets.specs.declared.table.Table.{Table}
 use Rattle.nets.specs.Meaning.{net, OfBook}
 use Rattle.nets.specs.Drafts.{Plan, planned, Faulty, Realised}
 use Rattle.terms.specs.Named.{Named, cells, items}
-use Rattle.terms.specs.Bindings.{term-under, net-under}
+use Rattle.terms.specs.Bindings.{term_under, net_under}
 use Rattle.terms.specs.Texts.{Reads}
 use Rattle.binding.proofs.Places.{placed_inside, placed_outside}
 use Rattle.compile.specs.Linking.{BothWays, Drafted}
 use Rattle.compile.proofs.Steps.{linear}
 
-all_in : (P : Spot × Spot → Type 0) (ls : List (Spot × Spot)) → All P ls → (u v : Spot) → In ls u v → P (u, v)
+all_in : (P : Spot × Spot → Type 0) (ls : List (Spot × Spot)) → AllByRecursion P ls → (u v : Spot) → In ls u v → P (u, v)
 all_in P [] a u v h = absurd h
 all_in P (l ∷ ls) a u v (inl (e, f)) = subst (λ x. P (x, v)) (sym e) (subst (λ y. P (l.0, y)) (sym f) a.0)
 all_in P (l ∷ ls) a u v (inr h) = all_in P ls a.1 u v h
 
-module _ (text : List ℕ) (T : Named) (reads : Reads text T) (p : Plan) (d : Drafted (length (items T)) (cells T) (links (end 0) (term-under (items T) T)) p) where
+module _ (text : List ℕ) (T : Named) (reads : Reads text T) (p : Plan) (d : Drafted (length (items T)) (cells T) (links (end 0) (term_under (items T) T)) p) where
   abbrev n : ℕ
   n = length (items T)
 
   abbrev U : Term
-  U = term-under (items T) T
+  U = term_under (items T) T
 
   apart : Distinct (links (end 0) U)
   apart = distinct_links n U (linear text T reads)
@@ -96,22 +96,22 @@ module _ (text : List ℕ) (T : Named) (reads : Reads text T) (p : Plan) (d : Dr
     kind_far : (r : ℕ) → cells T ≤ r → (net t).kind r ≡ None
     kind_far r far = done.kinds r ∙ cond-false _ _ _ (le-ltb r p.cells (omega (arith, d.cells)))
 
-    same_kind : (r : ℕ) → (net t).kind r ≡ (net-of-term n U).kind r
+    same_kind : (r : ℕ) → (net t).kind r ≡ (net_of_term n U).kind r
     same_kind r = elim (cases_lt r (cells T)) [
       | inl less ↦ (let i = placed_inside (items T) T 0 [] r (omega arith) (omega arith) in kind_there r less ∙ sym (kind_yes n U r (omega arith)))
       | inr far ↦ kind_far r far ∙ sym (kind_none n U r (placed_outside (items T) T 0 [] r (inr (omega arith))))
     ]
 
-    same_mate : (x : Spot) → (net t).mate x ≡ (net-of-term n U).mate x
+    same_mate : (x : Spot) → (net t).mate x ≡ (net_of_term n U).mate x
     same_mate x =
-        let is : linked (links (end 0) U) x ≡ (net-of-term n U).mate x = ap (λ (m : Spot → Spot). m x) (sym (mate_is n U)) in
+        let is : linked (links (end 0) U) x ≡ (net_of_term n U).mate x = ap (λ (m : Spot → Spot). m x) (sym (mate_is n U)) in
         elim (cases_Bool (planned p x)) [
           | inl h ↦ (let j = joined x h in done.links x ∙ cond-true _ _ _ h ∙ j.here ∙ sym j.same ∙ is)
           | inr h ↦ done.links x ∙ cond-false _ _ _ h ∙ sym (alone x h) ∙ is
         ]
 
     -- the table holds the term's net
-    pub net_is : net t ≡ net-under (items T) T
+    pub net_is : net t ≡ net_under (items T) T
     net_is = λ i. record {
       ends = (done.ends ∙ d.ends ∙ sym (ends_are n U)) i;
       kind = fun_ext same_kind i;

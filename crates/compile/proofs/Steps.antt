@@ -1,6 +1,6 @@
 -- The steps of a walk that fills a draft.
-use Rattle.std.proofs.Common.{◌≡◌, ℕ, suc, ◌+◌, ◌-◌, ◌<◌, ◌≤◌, true, ◌≢◌, ◌⊎◌, List, [], ◌∷◌, ◌++◌, length, get_or, set, Some, None, Ok, Err, Result, sym, refl, ap, ◌∙◌, subst, inl, inr, append_assoc, arith, get_or-set_other, get_or-set_same}
-use Rattle.std.specs.List.{ContainsAt as Has, AllByRecursion as All}
+use Rattle.std.proofs.Common.{◌≡◌, ℕ, suc, ◌+◌, ◌-◌, ◌<◌, ◌≤◌, true, ◌≢◌, List, [], ◌∷◌, ◌++◌, length, get_or, set, Some, None, Ok, Err, Result, sym, refl, ap, ◌∙◌, subst, inl, inr, append_assoc, arith, get_or-set_other, get_or-set_same}
+use Rattle.std.specs.List.{ContainsAt as Has, AllByRecursion}
 use Rattle.std.proofs.lemmas.List.{append-nil, length-append, get_or_at, get_or_append_left}
 use Rattle.std.proofs.lemmas.Bool.{cases_eq, cases_lt, lt-ltb}
 use Rattle.refusals.specs.declared.faults.TextFault.{TextFault}
@@ -11,23 +11,22 @@ use Rattle.lambda.proofs.Wirings.{Distinct}
 use Rattle.lambda.proofs.Good.{distinct_links}
 use Rattle.nets.specs.Drafts.{Plan, plan, planned, Begun}
 use Rattle.nets.specs.declared.draft.Draft.{Draft}
-use Rattle.terms.specs.Letters.{Word, capital}
 use Rattle.terms.specs.Named.{Named, bound, item, lam, app, written, cells, items}
-use Rattle.terms.specs.Bindings.{nothing, variable, Around, meaning, uses, rank-of, term-under}
+use Rattle.terms.specs.Bindings.{nothing, Around, meaning, uses, rank_of, term_under}
 use Rattle.terms.specs.Texts.{Reads}
 use Rattle.terms.specs.Listing.{listed, Added}
-use Rattle.terms.specs.Scopes.{Surrounding, Found, renumbered}
+use Rattle.terms.specs.Scopes.{Found, renumbered}
 use Rattle.terms.specs.Walking.{Later, due, shut, reading, between, coming_uses, Anything}
 use Rattle.terms.specs.declared.items.Items.{Items}
-use Rattle.terms.proofs.Fronts.{name_at, bound_at, item_at, stands-body, stands-function, stands-argument, stands-close, stands-name, stands-item}
-use Rattle.terms.proofs.Scopes.{held-body, held-function, held-argument, held-close, renumbered-same}
-use Rattle.terms.proofs.Walks.{uses-body, uses-function, uses-argument}
+use Rattle.terms.proofs.Fronts.{name_at, stands_body, stands_function, stands_argument, stands_close, stands_name, stands_item}
+use Rattle.terms.proofs.Scopes.{held_body, held_function, held_argument, held_close, renumbered_same}
+use Rattle.terms.proofs.Walks.{uses_body, uses_function, uses_argument}
 use Rattle.binding.proofs.Counting.{has_first, has_later}
 use Rattle.binding.proofs.Linearity.{linear_terms_lem, own_items_lem, rank_is}
 use Rattle.compile.specs.declared.builder.Builder.{Builder}
 use Rattle.compile.specs.Linking.{Linked, Placed, Drafted}
-use Rattle.compile.specs.Building.{Scope, coming_links, coming_items, later_items, Builds, BuiltTo, scope, Coming, Begins, Built}
-use Rattle.compile.proofs.Links.{Off, distinct_front, drafted_cell, drafted_link, drafted_port, drafted_end, planned_added, new_port, old_spot}
+use Rattle.compile.specs.Building.{Scope, coming_links, later_items, Builds, BuiltTo, scope, Coming, Begins, Built}
+use Rattle.compile.proofs.Links.{Off, distinct_front, drafted_cell, drafted_link, drafted_port, drafted_end, planned_added}
 use Rattle.compile.proofs.Layouts.{place_meant, in_body, in_function, in_argument, closed, links_body, links_function, links_name, links_item}
 
 -- a number put at the end of those in use
@@ -38,7 +37,7 @@ below_set xs n v c room l h k m = elim (cases_eq k n) [
 ]
 
 module _ (text : List ℕ) (T : Named) (reads : Reads text T) where
-  pub linear : Linear (length (items T)) (term-under (items T) T)
+  pub linear : Linear (length (items T)) (term_under (items T) T)
   linear = linear_terms_lem (items T) T reads.linear (own_items_lem T reads.linear)
 
   pub few_items : length (items T) ≤ 63
@@ -48,12 +47,12 @@ module _ (text : List ℕ) (T : Named) (reads : Reads text T) where
   few_cells = elim (cases_lt 1024 (cells T)) [ inl h ↦ absurd (reads.small (inr h)) | inr h ↦ h ]
 
   -- a link to come shares no spot with those that are drafted, and links two different spots
-  next_link : (done rest : List (Spot × Spot)) (x y : Spot) → done ++ (x, y) ∷ rest ≡ links (end 0) (term-under (items T) T) → All (Off (x, y)) done × (x ≢ y)
-  next_link done rest x y e = distinct_front done (x, y) rest (subst Distinct (sym e) (distinct_links (length (items T)) (term-under (items T) T) linear))
+  next_link : (done rest : List (Spot × Spot)) (x y : Spot) → done ++ (x, y) ∷ rest ≡ links (end 0) (term_under (items T) T) → AllByRecursion (Off (x, y)) done × (x ≢ y)
+  next_link done rest x y e = distinct_front done (x, y) rest (subst Distinct (sym e) (distinct_links (length (items T)) (term_under (items T) T) linear))
 
   module _ (q : ℕ) (p : Plan) (c : ℕ) (is : List (List ℕ)) (x : Spot) (s : Scope) where
     -- a new cell, linked with the spot
-    placed_link : (j : ℕ) (p' : Plan) (done rest : List (Spot × Spot)) → j ≤ 2 → planned p x ≡ true → Drafted (length (items T)) c done p → done ++ (x, port c j) ∷ rest ≡ links (end 0) (term-under (items T) T) →
+    placed_link : (j : ℕ) (p' : Plan) (done rest : List (Spot × Spot)) → j ≤ 2 → planned p x ≡ true → Drafted (length (items T)) c done p → done ++ (x, port c j) ∷ rest ≡ links (end 0) (term_under (items T) T) →
         Placed p x c j p' → Drafted (length (items T)) (c + 1) (done ++ (x, port c j) ∷ []) p'
     placed_link j p' done rest l there d e (m, added, linked) =
         drafted_link (length (items T)) (c + 1) done m p' x (port c j) (drafted_cell (length (items T)) c done p m d added) (planned_added p m 0 2 added x there)
@@ -70,9 +69,9 @@ module _ (text : List ℕ) (T : Named) (reads : Reads text T) where
         let drafted = placed_link 0 p' w.done _ (omega arith) w.ready w.drafted (ap (λ ls. w.done ++ ls) (sym next) ∙ w.all_links) placed in
         record {
           done = w.done ++ (x, port c 0) ∷ [];
-          stands = stands-body text q es ((n, q + 1) ∷ es) n b zs w.stands;
-          held = held-body text s.around s.saved s.inner s.depth es n (q + 1) b zs (omega arith) (name_at text q es n b zs w.stands) w.held;
-          bound = subst (λ us. (r : ℕ) → Has us (nothing, r) → ⊥) (sym (uses-body q es n b zs)) w.bound;
+          stands = stands_body text q es ((n, q + 1) ∷ es) n b zs w.stands;
+          held = held_body text s.around s.saved s.inner s.depth es n (q + 1) b zs (omega arith) (name_at text q es n b zs w.stands) w.held;
+          bound = subst (λ us. (r : ℕ) → Has us (nothing, r) → ⊥) (sym (uses_body q es n b zs)) w.bound;
           drafted = drafted;
           all_links = append_assoc w.done ((x, port c 0) ∷ []) _ ∙ ap (λ ls. w.done ++ ls) (sym next) ∙ w.all_links;
           all_items = w.all_items;
@@ -94,9 +93,9 @@ module _ (text : List ℕ) (T : Named) (reads : Reads text T) where
         let drafted = placed_link 1 p' w.done _ (omega arith) w.ready w.drafted (ap (λ ls. w.done ++ ls) (sym next) ∙ w.all_links) placed in
         record {
           done = w.done ++ (x, port c 1) ∷ [];
-          stands = stands-function text q es f a zs w.stands;
-          held = held-function text s.around s.saved s.inner s.depth es f a zs (omega arith) w.held;
-          bound = subst (λ us. (r : ℕ) → Has us (nothing, r) → ⊥) (sym (uses-function q es f a zs)) w.bound;
+          stands = stands_function text q es f a zs w.stands;
+          held = held_function text s.around s.saved s.inner s.depth es f a zs (omega arith) w.held;
+          bound = subst (λ us. (r : ℕ) → Has us (nothing, r) → ⊥) (sym (uses_function q es f a zs)) w.bound;
           drafted = drafted;
           all_links = append_assoc w.done ((x, port c 1) ∷ []) _ ∙ ap (λ ls. w.done ++ ls) (sym next) ∙ w.all_links;
           all_items = ap (λ ls. is ++ ls) (sym (append_assoc (items f) (items a) (later_items zs))) ∙ w.all_items;
@@ -116,9 +115,9 @@ module _ (text : List ℕ) (T : Named) (reads : Reads text T) where
         let less = h.1 in
         record {
           done = w.done;
-          stands = stands-argument text q es a zs w.stands;
-          held = held-argument text s.around s.saved s.inner s.depth es a zs h;
-          bound = subst (λ us. (r : ℕ) → Has us (nothing, r) → ⊥) (sym (uses-argument q es a zs)) w.bound;
+          stands = stands_argument text q es a zs w.stands;
+          held = held_argument text s.around s.saved s.inner s.depth es a zs h;
+          bound = subst (λ us. (r : ℕ) → Has us (nothing, r) → ⊥) (sym (uses_argument q es a zs)) w.bound;
           drafted = w.drafted;
           all_links = w.all_links;
           all_items = w.all_items;
@@ -134,8 +133,8 @@ module _ (text : List ℕ) (T : Named) (reads : Reads text T) where
         let low = w.low in
         record {
           done = w.done;
-          stands = stands-close text q es zs w.stands;
-          held = held-close text s.around s.saved s.inner s.depth es zs w.held;
+          stands = stands_close text q es zs w.stands;
+          held = held_close text s.around s.saved s.inner s.depth es zs w.held;
           bound = w.bound;
           drafted = w.drafted;
           all_links = w.all_links;
@@ -153,14 +152,14 @@ module _ (text : List ℕ) (T : Named) (reads : Reads text T) where
       -- it has an abstraction
       pub name_bound : Found n s.inner es None → ⊥
       name_bound found =
-          let means : meaning n es ≡ nothing = ap (meaning n) (sym (renumbered-same text s.around es s.inner w.held.0)) ∙ found s.around in
+          let means : meaning n es ≡ nothing = ap (meaning n) (sym (renumbered_same text s.around es s.inner w.held.0)) ∙ found s.around in
           w.bound q (subst (λ m. Has ((m, q) ∷ coming_uses (q + length n) (between zs)) (nothing, q)) (sym means) (has_first (nothing, q) _))
 
       module _ (i : ℕ) (found : Found n s.inner es (Some i)) where
         abbrev binder : ℕ
         binder = get_or s.binders i 0
 
-        name_links_lem : w.done ++ (x, port binder 1) ∷ coming_links (items T) s x c (between zs) ≡ links (end 0) (term-under (items T) T)
+        name_links_lem : w.done ++ (x, port binder 1) ∷ coming_links (items T) s x c (between zs) ≡ links (end 0) (term_under (items T) T)
         name_links_lem =
             ap (λ ls. w.done ++ ls) (sym (links_name (items T) text s x c es n zs binder (place_meant n (renumbered s.binders s.inner es) binder (found.1 s.binders)))) ∙ w.all_links
 
@@ -173,7 +172,7 @@ module _ (text : List ℕ) (T : Named) (reads : Reads text T) where
         pub builds_name : (p' : Plan) → Linked p x (port binder 1) p' → Builds text T (q + length n) p' c is x s (between zs)
         builds_name p' linked = record {
           done = w.done ++ (x, port binder 1) ∷ [];
-          stands = stands-name text q es n zs w.stands;
+          stands = stands_name text q es n zs w.stands;
           held = w.held.1;
           bound = λ r h. w.bound r (has_later (meaning n es, q) _ (nothing, r) h);
           drafted = drafted_link (length (items T)) c w.done p p' x (port binder 1) w.drafted w.ready name_there (next_link w.done _ x (port binder 1) name_links_lem).0 linked;
@@ -197,13 +196,13 @@ module _ (text : List ℕ) (T : Named) (reads : Reads text T) where
       item_here : get_or (items T) (length is) [] ≡ n
       item_here = ap (λ ls. get_or ls (length is) []) (sym w.all_items) ∙ get_or_at is n (later_items zs) [] (length is) refl
 
-      item_rank : suc (rank-of n (items T)) ≡ length is + 1
+      item_rank : suc (rank_of n (items T)) ≡ length is + 1
       item_rank =
           let room = item_room in
-          let rank : rank-of n (items T) ≡ length is = ap (λ v. rank-of v (items T)) (sym item_here) ∙ rank_is (items T) (own_items_lem T reads.linear).once (length is) (omega arith) in
+          let rank : rank_of n (items T) ≡ length is = ap (λ v. rank_of v (items T)) (sym item_here) ∙ rank_is (items T) (own_items_lem T reads.linear).once (length is) (omega arith) in
           omega arith
 
-      item_links : w.done ++ (x, end (length is + 1)) ∷ coming_links (items T) s x c (between zs) ≡ links (end 0) (term-under (items T) T)
+      item_links : w.done ++ (x, end (length is + 1)) ∷ coming_links (items T) s x c (between zs) ≡ links (end 0) (term_under (items T) T)
       item_links = ap (λ ls. w.done ++ ls) (sym (links_item (items T) text s x c es n zs (length is + 1) item_rank)) ∙ w.all_links
 
       pub item_there : planned p (end (length is + 1)) ≡ true
@@ -233,7 +232,7 @@ module _ (text : List ℕ) (T : Named) (reads : Reads text T) where
       pub builds_item : (p' : Plan) → Linked p x (end (length is + 1)) p' → Builds text T (q + length n) p' c (is ++ n ∷ []) x s (between zs)
       builds_item p' linked = record {
         done = w.done ++ (x, end (length is + 1)) ∷ [];
-        stands = stands-item text q es n zs w.stands;
+        stands = stands_item text q es n zs w.stands;
         held = w.held.1;
         bound = λ r h. w.bound r (has_later _ _ (nothing, r) h);
         drafted = drafted_link (length (items T)) c w.done p p' x (end (length is + 1)) w.drafted w.ready item_there (next_link w.done _ x (end (length is + 1)) item_links).0 linked;
@@ -251,11 +250,11 @@ module _ (text : List ℕ) (T : Named) (reads : Reads text T) where
   -- at the end everything is drafted
   pub builds_all : (q : ℕ) (b : Builder) → BuiltTo text T q b (between []) → Built text b
   builds_all q b w =
-      let all : w.done ≡ links (end 0) (term-under (items T) T) = sym (append-nil w.done) ∙ w.all_links in
+      let all : w.done ≡ links (end 0) (term_under (items T) T) = sym (append-nil w.done) ∙ w.all_links in
       let sum : b.cells ≡ cells T = omega (arith, w.all_cells) in (
         T,
         reads,
-        subst (λ c. Drafted (length (items T)) c (links (end 0) (term-under (items T) T)) (plan b.draft)) sum (subst (λ ls. Drafted (length (items T)) b.cells ls (plan b.draft)) all w.drafted),
+        subst (λ c. Drafted (length (items T)) c (links (end 0) (term_under (items T) T)) (plan b.draft)) sum (subst (λ ls. Drafted (length (items T)) b.cells ls (plan b.draft)) all w.drafted),
         sym (append-nil (listed b.items)) ∙ w.all_items,
       )
 
@@ -270,7 +269,7 @@ module _ (text : List ℕ) (T : Named) (reads : Reads text T) where
         held = (inner, depth);
         bound = λ r h. reads.linear.closed r (subst (λ us. Has us (nothing, r)) (append-nil (uses [] 0 T)) h);
         drafted = record { ends = ends; loops = omega (arith, begun.loops); cells = begun.cells; kinds = λ r l. absurd (omega arith); arities = λ r l. absurd (omega arith); named = tt };
-        all_links = append-nil (links (end 0) (term-under (items T) T));
+        all_links = append-nil (links (end 0) (term_under (items T) T));
         all_items = append-nil (items T);
         all_cells = omega arith;
         ready = lt-ltb 0 p.ends (omega arith);

@@ -7,7 +7,7 @@ use Rattle.nets.specs.Drafts.{Plan, plan, planned}
 use Rattle.nets.specs.Views.{at}
 use Rattle.nets.specs.declared.draft.Draft.{Draft}
 use Rattle.terms.specs.Named.{Named, cells, items}
-use Rattle.terms.specs.Bindings.{nothing, placed, term-under}
+use Rattle.terms.specs.Bindings.{nothing, placed_under, term_under}
 use Rattle.terms.specs.Texts.{Reads}
 use Rattle.terms.specs.Listing.{listed}
 use Rattle.terms.specs.Scopes.{renumbered}
@@ -32,13 +32,13 @@ scope b = record { around = b.around; binders = b.binders; inner = b.inner; save
 abbrev pub later_links : List (List ℕ) → List ℕ → List ℕ → List ℕ → ℕ → ℕ → List Later → List (Spot × Spot)
 later_links is binders saved opened d c [] = []
 later_links is binders saved opened d c (due es a ∷ zs) =
-    links (port (slice_index opened (d - 1)) 2) (placed is c (renumbered binders (slice_index saved (d - 1)) es) a) ++ later_links is binders saved opened (d - 1) (c + cells a) zs
+    links (port (slice_index opened (d - 1)) 2) (placed_under is c (renumbered binders (slice_index saved (d - 1)) es) a) ++ later_links is binders saved opened (d - 1) (c + cells a) zs
 later_links is binders saved opened d c (shut es ∷ zs) = later_links is binders saved opened (d - 1) c zs
 
 -- the links to come, where the next term goes to x
 abbrev pub coming_links : List (List ℕ) → Scope → Spot → ℕ → Todo → List (Spot × Spot)
 coming_links is s x c (reading es t zs) =
-    links x (placed is c (renumbered s.binders s.inner es) t) ++ later_links is s.binders s.saved s.opened s.depth (c + cells t) zs
+    links x (placed_under is c (renumbered s.binders s.inner es) t) ++ later_links is s.binders s.saved s.opened s.depth (c + cells t) zs
 coming_links is s x c (between zs) = later_links is s.binders s.saved s.opened s.depth c zs
 
 -- the items to come
@@ -63,7 +63,7 @@ pub record Builds (text : List ℕ) (T : Named) (q : ℕ) (p : Plan) (c : ℕ) (
   pub held : Held text s.around s.inner s.saved s.depth z
   pub bound : (r : ℕ) → Has (coming_uses q z) (nothing, r) → ⊥
   pub drafted : Drafted (length (items T)) c done p
-  pub all_links : done ++ coming_links (items T) s x c z ≡ links (end 0) (term-under (items T) T)
+  pub all_links : done ++ coming_links (items T) s x c z ≡ links (end 0) (term_under (items T) T)
   pub all_items : is ++ coming_items z ≡ items T
   pub all_cells : c + coming_cells z ≡ cells T
   pub ready : Ready p x z
@@ -90,4 +90,4 @@ pub record Begins (d : Draft) (is : Items) (b : Builder) : Type 0 where
 -- the whole text is read: all links of the term are drafted, and all its items listed
 abbrev pub Built : List ℕ → Builder → Type 0
 Built text b =
-    (T : Named) × Reads text T × Drafted (length (items T)) (cells T) (links (end 0) (term-under (items T) T)) (plan b.draft) × (listed b.items ≡ items T)
+    (T : Named) × Reads text T × Drafted (length (items T)) (cells T) (links (end 0) (term_under (items T) T)) (plan b.draft) × (listed b.items ≡ items T)

@@ -3,7 +3,7 @@ use Rattle.std.specs.Prelude.{◌≡◌, ℕ, List, Ok, Err, Result}
 use Rattle.calculus.specs.Combinators.{combinators}
 use Rattle.nets.specs.Meaning.{net as net_of, OfBook}
 use Rattle.terms.specs.Named.{Named, items as items_of}
-use Rattle.terms.specs.Bindings.{net-under}
+use Rattle.terms.specs.Bindings.{net_under}
 use Rattle.terms.specs.Texts.{Reads, Due}
 use Rattle.terms.specs.Listing.{listed}
 use Rattle.compile.specs.declared.compiler.Compiled.{Compiled}
@@ -14,7 +14,7 @@ pub record CompiledAs (text : List ℕ) (c : Compiled) : Type 0 where
   pub term : Named
   pub reads : Reads text term
   pub items : listed c.items ≡ items_of term
-  pub net : net_of c.table ≡ net-under (items_of term) term
+  pub net : net_of c.table ≡ net_under (items_of term) term
   pub book : OfBook combinators c.table
 
 -- such a net, or the fault that is due, or that memory is wanting

@@ -1,6 +1,6 @@
 -- Links of a draft that are named both ways: what private functions tell each other; no public contract cites it. Assumes nothing.
 use Rattle.std.specs.Prelude.{◌≡◌, ℕ, suc, ◌<◌, true, ◌≢◌, List}
-use Rattle.std.specs.List.{AllByRecursion as All}
+use Rattle.std.specs.List.{AllByRecursion}
 use Rattle.calculus.specs.Spots.{Spot, port}
 use Rattle.calculus.specs.Combinators.{γ}
 use Rattle.nets.specs.Drafts.{Plan, planned, CellAdded}
@@ -31,4 +31,4 @@ pub record Drafted (n c : ℕ) (ls : List (Spot × Spot)) (p : Plan) : Type 0 wh
   pub cells : p.cells ≡ c
   pub kinds : (r : ℕ) → r < c → p.kind r ≡ γ
   pub arities : (r : ℕ) → r < c → p.arity r ≡ 2
-  pub named : All (BothWays p) ls
+  pub named : AllByRecursion (BothWays p) ls

@@ -11,7 +11,7 @@ use nets::draft::Draft;
 use nets::spot::Spot;
 use terms::items::Items;
 use terms::letters::{is_letter, word_at};
-use terms::looking::find_binder;
+use terms::looking::find_scope;
 
 impl Builder {
     /// A walk before the first byte, with the root of the term at end 0.
@@ -131,7 +131,7 @@ impl Builder {
         ensures on { at < result }
     {
         let name = word_at(text, at, 97);
-        let Some(i) = find_binder(text, &self.around[0..self.inner as usize], name) else {
+        let Some(i) = find_scope(text, &self.around[0..self.inner as usize], name) else {
             unreachable();
         };
         link(&mut self.draft, self.spot, Spot::Port(self.binders[i], 1));

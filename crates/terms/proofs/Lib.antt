@@ -3,10 +3,12 @@ pub mod Listings
 pub mod Lookups
 pub mod Wrongs
 pub mod Tallies
+pub mod Machine
+pub mod Fronts
+pub mod Scopes
 pub mod Walks
 pub mod Stacks
 pub mod Steps
-pub mod Machine
 pub mod Exact
 pub mod Single
 pub mod Outcomes

@@ -34,21 +34,21 @@ things_uses (app f a) es p =
     omega arith
 
 -- the names of abstractions stand in the text
-binder_inside : (t : Named) (p q : ℕ) → Has (binders p t) q → q < p + length (written t)
+pub binder_inside : (t : Named) (p q : ℕ) → Has (binders p t) q → (p < q) × (q < p + length (written t))
 binder_inside (bound w) p q h = absurd (omega (arith, h.1))
 binder_inside (item w) p q h = absurd (omega (arith, h.1))
 binder_inside (lam w b) p q h =
     let n = length-append w (46 ∷ written b) in
     elim (has_append ((p + 1) ∷ []) (binders (p + (length w + 2)) b) q h) [
-      | inl i ↦ (let e = has_one (p + 1) q i in omega arith)
-      | inr i ↦ (let e = binder_inside b (p + (length w + 2)) q i in omega arith)
+      | inl i ↦ (let e = has_one (p + 1) q i in (omega arith, omega arith))
+      | inr i ↦ (let e = binder_inside b (p + (length w + 2)) q i in (omega arith, omega arith))
     ]
 binder_inside (app f a) p q h =
     let n = length-append (written f) (32 ∷ (written a ++ 41 ∷ [])) in
     let k = length-append (written a) (41 ∷ []) in
     elim (has_append _ _ _ h) [
-      | inl i ↦ (let e = binder_inside f (p + 1) q i in omega arith)
-      | inr i ↦ (let e = binder_inside a (p + (length (written f) + 2)) q i in omega arith)
+      | inl i ↦ (let e = binder_inside f (p + 1) q i in (omega arith, omega arith))
+      | inr i ↦ (let e = binder_inside a (p + (length (written f) + 2)) q i in (omega arith, omega arith))
     ]
 
 module _ (text : List ℕ) (T : Named) (spelt : Spelt T) (is : written T ≡ text) (short : length text ≤ 8192) (w : Walker) (h : Walked text T w) where

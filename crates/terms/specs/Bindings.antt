@@ -3,7 +3,9 @@ use Rattle.std.specs.Prelude.{ℕ, suc, ◌+◌, ◌<◌, cond, ◌≢◌, List,
 use Rattle.std.specs.List.{ContainsAt as Has}
 use Rattle.std.specs.Str.{bytes_eq}
 use Rattle.terms.specs.Named.{Named, bound, item, lam, app, written, cells, items}
+use Rattle.calculus.specs.Nets.{Net}
 use Rattle.lambda.specs.Terms.{Term}
+use Rattle.lambda.specs.TermNets.{net}
 
 -- an abstraction is known by its name and a number; a name means the innermost one around it that has this name, or none
 pub data Meaning : Type 0 where
@@ -70,3 +72,23 @@ placed c k es (app f a) = Term.app c (placed (suc c) k es f) (placed (suc (c + c
 -- the term that a term with names stands for
 abbrev pub term_of : Named → Term
 term_of t = placed 0 0 [] t
+
+-- where an item stands in a list of items, counted from 0; the list's length if it is not listed
+abbrev pub rank_of : List ℕ → List (List ℕ) → ℕ
+rank_of w [] = 0
+rank_of w (i ∷ is) = cond (bytes_eq w i) 0 (suc (rank_of w is))
+
+-- a term without names, under a list of items: its cells in places from c on in text order, item k the k-th item listed; here an abstraction's number is its place
+abbrev pub placed_under : List (List ℕ) → ℕ → Around → Named → Term
+placed_under is c es (bound w) = Term.var (place_of w es)
+placed_under is c es (item w) = Term.item (suc (rank_of w is))
+placed_under is c es (lam w b) = Term.lam c (placed_under is (suc c) ((w, c) ∷ es) b)
+placed_under is c es (app f a) = Term.app c (placed_under is (suc c) es f) (placed_under is (suc (c + cells f)) es a)
+
+-- the term without names that a term with names stands for, under a list of its items
+abbrev pub term_under : List (List ℕ) → Named → Term
+term_under is t = placed_under is 0 [] t
+
+-- the net of a term under a list of its items: end 0 for the root, end k for the k-th item listed, its cells in places 0, 1, 2 and on in text order
+abbrev pub net_under : List (List ℕ) → Named → Net
+net_under is t = net (length is) (term_under is t)

@@ -3,6 +3,7 @@ pub mod Spelling
 pub mod Listing
 pub mod Named
 pub mod Bindings
+pub mod Scopes
 pub mod Texts
 pub mod Scanning
 pub mod Looking

@@ -3,7 +3,7 @@ use Rattle.std.specs.Prelude.{◌≡◌, ℕ, ◌+◌, ◌-◌, ◌<◌, ◌≤�
 use Rattle.std.specs.List.{ContainsAt as Has}
 use Rattle.terms.specs.Named.{Named, bound, item, lam, app, written, Spelt, cells}
 use Rattle.terms.specs.Bindings.{Around, uses, binders}
-use Rattle.terms.specs.Looking.{Surrounding}
+use Rattle.terms.specs.Scopes.{Surrounding}
 use Rattle.terms.specs.Tallying.{Uses, Before, Tallied}
 use Rattle.terms.specs.declared.tally.Tally.{Tally}
 use Rattle.terms.specs.declared.walker.Walker.{Walker}
@@ -79,13 +79,17 @@ abbrev pub Held : List ℕ → List ℕ → ℕ → List ℕ → ℕ → Todo �
 Held text around inner saved depth (reading es t zs) = Surrounding text around inner es × Saved text around saved inner depth zs
 Held text around inner saved depth (between zs) = Saved text around saved inner depth zs
 
+-- place p of the text is reached, and z stands there
+pub record Stands (text : List ℕ) (p : ℕ) (z : Todo) : Type 0 where
+  pub inside : p ≤ length text
+  pub front : drop p text ≡ remaining z
+  pub spelt : SpeltTodo z
+
 -- at place p of the text of T, with z to be read
 pub record Walk (text : List ℕ) (T : Named) (p : ℕ) (around : List ℕ) (inner : ℕ) (saved : List ℕ) (depth : ℕ) (flags : List Bool) (count : ℕ) (tally : Tally) (z : Todo) : Type 0 where
   pub us : Uses
   pub bs : List ℕ
-  pub inside : p ≤ length text
-  pub front : drop p text ≡ remaining z
-  pub spelt : SpeltTodo z
+  pub stands : Stands text p z
   pub all_uses : us ++ coming_uses p z ≡ uses [] 0 T
   pub all_binders : bs ++ coming_binders p z ≡ binders 0 T
   pub all_cells : count + coming_cells z ≡ cells T

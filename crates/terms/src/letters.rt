@@ -4,8 +4,7 @@ ghost use Rattle.terms.specs.Letters.{letter, Run, WordAt};
 
 /// How many letters, from one letter on through the 25 after it, stand at a place of the text; more than eight count as eight.
 pub(crate) fn run_of(text: &[u8], at: usize, first: u8) -> usize
-    requires inside { at ≤ length text.now }
-    requires letter { first ≤ 97 }
+    requires { at ≤ length text.now }
     ensures { Run text.now at first result }
 {
     for i in 0..8usize {
@@ -16,20 +15,20 @@ pub(crate) fn run_of(text: &[u8], at: usize, first: u8) -> usize
     8
 }
 
-/// Whether the byte is one of the letters from the first one on.
-pub(crate) fn is_letter(byte: u8, first: u8) -> bool
-    requires { first ≤ 97 }
+/// Whether the byte is one of the 26 letters from the first one on.
+pub fn is_letter(byte: u8, first: u8) -> bool
     ensures { result ≡ letter first byte }
 {
-    first <= byte && byte <= first + 25
+    first <= byte && byte - first <= 25
 }
 
-/// The word that stands at a place of the text.
-pub(crate) fn word_at(text: &[u8], at: usize, first: u8) -> &[u8]
-    requires inside { at ≤ length text.now }
-    requires letter { first ≤ 97 }
+/// The word of letters, from one letter on through the 25 after it, that stands at a place of the text; where none does, some bytes.
+pub fn word_at(text: &[u8], at: usize, first: u8) -> &[u8]
     ensures { (w : List ℕ) → WordAt text.now at first w → result.now ≡ w }
 {
+    if at > text.len() {
+        return &text[0..0];
+    }
     let len = run_of(text, at, first);
     &text[at..at + len]
 }

@@ -4,9 +4,9 @@
 pub mod grammar;
 pub mod item;
 pub mod items;
-mod letters;
+pub mod letters;
 pub mod listing;
-mod looking;
+pub mod looking;
 mod scanner;
 mod scanning;
 pub mod size;

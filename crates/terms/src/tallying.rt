@@ -2,7 +2,6 @@
 ghost use Rattle.std.specs.Prelude.{◌≡◌, ℕ, ◌+◌, ◌<◌, ◌≤◌, List, [], length, Some, None};
 ghost use Rattle.terms.specs.Bindings.{variable, listed, nothing};
 ghost use Rattle.terms.specs.Letters.{WordAt, capital};
-ghost use Rattle.terms.specs.Looking.{Places};
 ghost use Rattle.terms.specs.Tallying.{Tallied, Noted, blamed};
 
 use crate::letters::word_at;
@@ -46,9 +45,7 @@ impl Tally {
 
     // Notes an item.
     pub(crate) fn note_item(&mut self, text: &[u8], at: u16)
-        requires inside { at ≤ length text.now }
-        requires places { Places text.now self.old.items self.old.count }
-        requires room { self.old.count < 8192 }
+        requires { self.old.count < 8192 }
         ensures noted { (w : List ℕ) → WordAt text.now at capital w → Noted text.now (listed w) at self.old self.new }
         ensures counted { self.new.count ≡ self.old.count + 1 }
     {

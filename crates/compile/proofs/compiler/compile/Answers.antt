@@ -1,8 +1,7 @@
-use Rattle.std.proofs.Common.{◌≡◌, ℕ, ◌+◌, ap, subst, arith}
-use Rattle.std.proofs.lemmas.Result.{err_from_is_err_and}
+use Rattle.std.proofs.Common.{◌+◌, subst}
 use Rattle.nets.specs.Drafts.{plan, Begun}
 use Rattle.nets.specs.Views.{at}
-use Rattle.compile.proofs.Steps.{few_items, builds_none}
+use Rattle.compile.proofs.Steps.{builds_none}
 use Rattle.compile.proofs.Sealed.{no_fault, net_is, of_book}
 use Rattle.compile.proofs.compiler.compile.Goals as goal
 

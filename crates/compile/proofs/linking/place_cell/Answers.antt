@@ -13,9 +13,9 @@ link-requires c =
     let p = plan c.args.draft.now in
     let (next, room) = c.requires.next in
     let (there, low) = c.requires.there in
-    let added = c.add-cell.ensures.done (c.add-cell.ensures.answer ∙ and_from _ _ (lt-ltb p.cells 1024 (omega arith)) refl) in
+    let added = c.add_cell.ensures.done (c.add_cell.ensures.answer ∙ and_from _ _ (lt-ltb p.cells 1024 (omega arith)) refl) in
     record {
-      there = (planned_added _ _ 0 2 added x there, subst (λ r. planned (plan c.add-cell.new.self) (port r j) ≡ true) next (new_port _ _ j added low));
+      there = (planned_added _ _ 0 2 added x there, subst (λ r. planned (plan c.add_cell.new.self) (port r j) ≡ true) next (new_port _ _ j added low));
       apart = subst (λ r. x ≢ port r j) next (old_spot p x j there);
     }
 
@@ -23,4 +23,4 @@ pub returns : goal.returns
 returns c =
     let p = plan c.args.draft.now in
     let (next, room) = c.requires.next in
-    (plan c.add-cell.new.self, c.add-cell.ensures.done (c.add-cell.ensures.answer ∙ and_from _ _ (lt-ltb p.cells 1024 (omega arith)) refl), c.link.ensures)
+    (plan c.add_cell.new.self, c.add_cell.ensures.done (c.add_cell.ensures.answer ∙ and_from _ _ (lt-ltb p.cells 1024 (omega arith)) refl), c.link.ensures)

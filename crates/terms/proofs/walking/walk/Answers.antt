@@ -1,6 +1,6 @@
 use Rattle.std.proofs.Common.{◌≡◌, [], length, subst, arith}
 use Rattle.terms.specs.Walking.{reading, between, Walks}
-use Rattle.terms.proofs.Walks.{at_end}
+use Rattle.terms.proofs.Fronts.{at_end}
 use Rattle.terms.proofs.walking.walk.Goals as goal
 
 pub loop-at-init : goal.loop-at-init
@@ -20,7 +20,7 @@ returns c T g e =
     let text = c.args.text.now in
     let s = c.loop-at.walker in
     let w = c.loop-at.invariant T g e in
-    let z = at_end text T c.loop-at.at s.around s.inner s.saved s.depth s.binders s.cells s.tally w.0 c.loop-at-test.false w.1 in
-    let i = w.1.inside in
+    let z = at_end text c.loop-at.at w.0 c.loop-at-test.false w.1.stands in
+    let i = w.1.stands.inside in
     let at : c.loop-at.at ≡ length text = omega arith in
     subst (λ p. Walks text T p s (between [])) at (subst (λ y. Walks text T c.loop-at.at s y) z w.1)

@@ -11,14 +11,14 @@ use Rattle.compile.specs.Linking.{Linked}
 use Rattle.compile.proofs.Steps.{few_items, item_room, item_added, item_there, item_apart, builds_item}
 use Rattle.compile.proofs.builder.Builder.pass_item.Goals as goal
 
-pub overflow-cast-len : goal.overflow-cast-len
-overflow-cast-len c =
+pub overflow_cast-len : goal.overflow_cast-len
+overflow_cast-len c =
     let text = c.args.text.now in
     let b = c.args.self.now in
     let at = c.args.at in
     let (T, z, (es, n, zs, is), reads, w) = c.requires in
     let v = subst (BuiltTo text T at b) is w in
-    let word : c.word-at-item.result.now ≡ n = c.word-at-item.ensures n (item_at text at es n zs v.stands) in
+    let word : c.word_at-item.result.now ≡ n = c.word_at-item.ensures n (item_at text at es n zs v.stands) in
     let added = item_added text T reads at _ b.cells _ _ (scope b) es n zs v b.items c.add.new.self c.add.result refl (subst (λ (m : List ℕ). Added b.items m c.add.result c.add.new.self) word c.add.ensures) in
     let size : c.len.result ≡ length (listed b.items) + 1 = c.len.ensures ∙ ap length added ∙ length_push (listed b.items) n in
     let room = item_room text T reads at _ b.cells _ _ (scope b) es n zs v in
@@ -33,7 +33,7 @@ link-requires c =
     let at = c.args.at in
     let (T, z, (es, n, zs, is), reads, w) = c.requires in
     let v = subst (BuiltTo text T at b) is w in
-    let word : c.word-at-item.result.now ≡ n = c.word-at-item.ensures n (item_at text at es n zs v.stands) in
+    let word : c.word_at-item.result.now ≡ n = c.word_at-item.ensures n (item_at text at es n zs v.stands) in
     let added = item_added text T reads at _ b.cells _ _ (scope b) es n zs v b.items c.add.new.self c.add.result refl (subst (λ (m : List ℕ). Added b.items m c.add.result c.add.new.self) word c.add.ensures) in
     let size : c.len.result ≡ length (listed b.items) + 1 = c.len.ensures ∙ ap length added ∙ length_push (listed b.items) n in
     record {
@@ -49,13 +49,13 @@ returns c =
     let (T, z, (es, n, zs, is), reads, w) = c.requires in
     let v = subst (BuiltTo text T at b) is w in
     let stands = item_at text at es n zs v.stands in
-    let word : c.word-at-item.result.now ≡ n = c.word-at-item.ensures n stands in
+    let word : c.word_at-item.result.now ≡ n = c.word_at-item.ensures n stands in
     let added = item_added text T reads at _ b.cells _ _ (scope b) es n zs v b.items c.add.new.self c.add.result refl (subst (λ (m : List ℕ). Added b.items m c.add.result c.add.new.self) word c.add.ensures) in
     let size : c.len.result ≡ length (listed b.items) + 1 = c.len.ensures ∙ ap length added ∙ length_push (listed b.items) n in
     let next = builds_item text T reads at _ b.cells _ _ (scope b) es n zs v _ (subst (λ k. Linked (plan b.draft) (spot_at_lem b.spot) (end k) (plan c.link.new.draft)) size c.link.ensures) in
     let here = subst (λ (m : List ℕ). Builds text T (at + length m) (plan c.link.new.draft) b.cells (listed b.items ++ n ∷ []) (spot_at_lem b.spot) (scope b) (between zs)) (sym word) next in
-    let long : length c.word-at-item.result.now ≡ length n = ap length word in
+    let long : length c.word_at-item.result.now ≡ length n = ap length word in
     record {
-      goes = (T, between zs, tt, reads, subst (λ ls. Builds text T (at + length c.word-at-item.result.now) (plan c.link.new.draft) b.cells ls (spot_at_lem b.spot) (scope b) (between zs)) (sym added) here);
+      goes = (T, between zs, tt, reads, subst (λ ls. Builds text T (at + length c.word_at-item.result.now) (plan c.link.new.draft) b.cells ls (spot_at_lem b.spot) (scope b) (between zs)) (sym added) here);
       on = omega (arith, stands.word.some);
     }

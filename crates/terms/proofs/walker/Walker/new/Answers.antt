@@ -14,9 +14,7 @@ pub returns : goal.returns
 returns c T g e = record {
   us = [];
   bs = [];
-  inside = omega arith;
-  front = sym e ∙ sym (append-nil (written T));
-  spelt = (g, tt);
+  stands = record { inside = omega arith; front = sym e ∙ sym (append-nil (written T)); spelt = (g, tt) };
   all_uses = append-nil (uses [] 0 T);
   all_binders = append-nil (binders 0 T);
   all_cells = omega arith;

@@ -2,7 +2,9 @@ use Rattle.std.proofs.Common.{◌≡◌, ℕ, ◌+◌, List, length, sym, ap, �
 use Rattle.terms.specs.Walking.{between, Walk, Walks}
 use Rattle.terms.specs.Bindings.{meaning}
 use Rattle.terms.specs.Tallying.{Noted}
-use Rattle.terms.proofs.Walks.{walk_name, bound_at, surrounding_places, meant_inside}
+use Rattle.terms.proofs.Fronts.{bound_at}
+use Rattle.terms.proofs.Scopes.{surrounding_inside, meant_inside}
+use Rattle.terms.proofs.Walks.{walk_name}
 use Rattle.terms.proofs.walker.Walker.pass_name.Goals as goal
 
 pub find_binder-requires : goal.find_binder-requires
@@ -10,7 +12,7 @@ find_binder-requires c =
     let s = c.args.self.now in
     let k = c.requires.comes.2 in
     let v = subst (λ z. Walks c.args.text.now c.requires.comes.0 c.args.at c.args.self.now z) k.3 c.requires.comes.3 in
-    record { inside = (omega (arith, v.low, c.requires.short, v.inside, s.wide), surrounding_places c.args.text.now s.around k.0 s.inner v.held.0) }
+    record { inside = (omega (arith, v.low, c.requires.short, v.stands.inside, s.wide), λ i l. let p = surrounding_inside c.args.text.now s.around k.0 s.inner v.held.0 i l in omega arith) }
 
 pub note_variable-requires : goal.note_variable-requires
 note_variable-requires c =
@@ -27,7 +29,7 @@ returns-in-Some c = record {
       let s = c.args.self.now in
       let at = c.args.at in
       let v = subst (λ z. Walks c.args.text.now T c.args.at c.args.self.now z) k.3 w in
-      let word = bound_at c.args.text.now T c.args.at s.around s.inner s.saved s.depth s.binders s.cells s.tally k.0 k.1 k.2 v in
+      let word = bound_at c.args.text.now c.args.at k.0 k.1 k.2 v.stands in
       let is : c.word_at-name.result.now ≡ k.1 = c.word_at-name.ensures k.1 word in
       let means = ap (λ (n : List ℕ). meaning n k.0) (sym is) ∙ c.in-Some.ensures k.0 v.held.0 in (
         between k.2,
@@ -38,7 +40,7 @@ returns-in-Some c = record {
       let s = c.args.self.now in
       let k = c.requires.comes.2 in
       let v = subst (λ z. Walks c.args.text.now c.requires.comes.0 c.args.at c.args.self.now z) k.3 c.requires.comes.3 in
-      let n = bound_at c.args.text.now c.requires.comes.0 c.args.at s.around s.inner s.saved s.depth s.binders s.cells s.tally k.0 k.1 k.2 v in
+      let n = bound_at c.args.text.now c.args.at k.0 k.1 k.2 v.stands in
       let m = n.word.some in
       let l : length c.word_at-name.result.now ≡ length k.1 = ap length (c.word_at-name.ensures k.1 n) in
       omega arith;
@@ -50,7 +52,7 @@ returns c = record {
       let s = c.args.self.now in
       let at = c.args.at in
       let v = subst (λ z. Walks c.args.text.now T c.args.at c.args.self.now z) k.3 w in
-      let word = bound_at c.args.text.now T c.args.at s.around s.inner s.saved s.depth s.binders s.cells s.tally k.0 k.1 k.2 v in
+      let word = bound_at c.args.text.now c.args.at k.0 k.1 k.2 v.stands in
       let is : c.word_at-name.result.now ≡ k.1 = c.word_at-name.ensures k.1 word in
       let means = ap (λ (n : List ℕ). meaning n k.0) (sym is) ∙ c.in_default.ensures k.0 v.held.0 in (
         between k.2,
@@ -61,7 +63,7 @@ returns c = record {
       let s = c.args.self.now in
       let k = c.requires.comes.2 in
       let v = subst (λ z. Walks c.args.text.now c.requires.comes.0 c.args.at c.args.self.now z) k.3 c.requires.comes.3 in
-      let n = bound_at c.args.text.now c.requires.comes.0 c.args.at s.around s.inner s.saved s.depth s.binders s.cells s.tally k.0 k.1 k.2 v in
+      let n = bound_at c.args.text.now c.args.at k.0 k.1 k.2 v.stands in
       let m = n.word.some in
       let l : length c.word_at-name.result.now ≡ length k.1 = ap length (c.word_at-name.ensures k.1 n) in
       omega arith;
