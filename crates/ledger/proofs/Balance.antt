@@ -1,5 +1,5 @@
 -- The pairs waiting and out stay exactly the active pairs. Assumes nothing.
-use Rattle.std.proofs.Common.{◌≡◌, ℕ, zero, suc, ◌+◌, ◌<◌, ◌≤◌, min, Bool, true, false, ◌≢◌, ◌⊎◌, List, [], ◌∷◌, ◌++◌, map, length, get_or, set, Some, sym, refl, ap, ◌∙◌, subst, ap₂, inl, inr, arith, length-set, get_or-set_other, get_or-set_same}
+use Rattle.std.proofs.Common.{◌≡◌, ℕ, zero, suc, ◌+◌, ◌<◌, ◌≤◌, min, Bool, true, false, ◌≢◌, ◌⊎◌, List, [], ◌∷◌, ◌++◌, map, length, get_or, set, Some, sym, refl, ap, ◌∙◌, subst, inl, inr, arith, length-set, get_or-set_other, get_or-set_same}
 use Rattle.std.specs.List.{ContainsAt as Has, slice_get}
 use Rattle.std.specs.List.Sorted.{IsPermutation}
 use Rattle.std.proofs.lemmas.List.Sorted.{IsPermutation-sym, sum_by-IsPermutation}
@@ -15,7 +15,7 @@ use Rattle.strategies.specs.declared.pair.Pair.{Pair as Waiting}
 use Rattle.pairs.specs.Pairs.{waiting, lower, InOrder, Became}
 use Rattle.ledger.specs.Places.{Places, places, times_out, times_waiting, without, CellOf}
 use Rattle.ledger.specs.Ledger.{Balanced, Marked, AtMost512}
-use Rattle.ledger.proofs.Members.{In, has_in, in_has, nth_in, in_nth, in_map, map_in, in_append, append_left, append_right}
+use Rattle.ledger.proofs.Members.{In, has_in, in_has, in_nth, in_map, map_in, in_append}
 use Rattle.ledger.proofs.Times.{spot, one, one_same, one_other, decide, out_cons, waiting-cons, out_append, waiting-append, spots_times, in_times, times_in, in_waiting, waiting_in, without_times, without_in, without_other}
 use Rattle.ledger.proofs.Crowds.{crowd}
 

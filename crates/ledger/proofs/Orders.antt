@@ -1,6 +1,6 @@
 -- Lists of active pairs by rising lower place. Assumes nothing.
 use Rattle.std.proofs.Common.{◌≡◌, ℕ, zero, suc, ◌+◌, ◌<◌, ◌≤◌, min, ◌≢◌, ◌⊎◌, List, [], ◌∷◌, ◌++◌, map, length, Some, sym, refl, ap, ◌∙◌, subst, inl, inr, arith}
-use Rattle.std.specs.List.{ContainsAt as Has, slice_get}
+use Rattle.std.specs.List.{slice_get}
 use Rattle.std.proofs.lemmas.Bool.{cases_eq}
 use Rattle.calculus.specs.Books.{RuleBook, Laws}
 use Rattle.calculus.specs.Nets.{Net, Good, Active}
@@ -8,8 +8,8 @@ use Rattle.calculus.specs.Nets.{Pair as CPair}
 use Rattle.calculus.proofs.Rewrite.{sized, facing, two}
 use Rattle.pairs.specs.Pairs.{lower, InOrder}
 use Rattle.ledger.specs.Places.{Places, places, times_out}
-use Rattle.ledger.proofs.Members.{In, has_in, in_has, nth_in, in_nth, in_map, map_in, in_append, append_left, append_right}
-use Rattle.ledger.proofs.Times.{one, one_same, one_other, decide, out_cons, times_in}
+use Rattle.ledger.proofs.Members.{In, has_in, in_has, nth_in, in_map, in_append, append_left, append_right}
+use Rattle.ledger.proofs.Times.{one_same, one_other, decide, out_cons, times_in}
 use Rattle.ledger.proofs.Crowds.{crowd}
 use Rattle.ledger.proofs.Balance.{Climbing, climbing, one_pair}
 

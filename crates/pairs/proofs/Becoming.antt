@@ -1,19 +1,19 @@
 -- Which pairs a rewriting makes: those whose cells are new, or were linked with auxiliary ports of the pair by their principal ports. Assumes nothing.
-use Rattle.std.proofs.Common.{◌≡◌, ℕ, zero, suc, ◌+◌, ◌<◌, ◌≤◌, ◌≢◌, ◌⊎◌, List, [], ◌∷◌, ◌++◌, length, get_or, take, Some, None, Option, sym, refl, ap, ◌∙◌, subst, inl, inr, arith}
+use Rattle.std.proofs.Common.{◌≡◌, ℕ, zero, suc, ◌<◌, ◌≤◌, ◌≢◌, ◌⊎◌, List, ◌++◌, length, get_or, take, Some, None, Option, sym, refl, ap, ◌∙◌, subst, inl, inr, arith}
 use Rattle.std.specs.List.{ContainsAt as Has, slice_get}
 use Rattle.std.proofs.ByRecursion.{has_append_left, has_append_right}
 use Rattle.std.proofs.lemmas.Bool.{cases_lt}
 use Rattle.std.proofs.lemmas.List.{get_or-take, length-take-le}
 use Rattle.calculus.specs.Spots.{Spot, end, port}
-use Rattle.calculus.specs.Books.{RulePort, L, R, N, RuleBook, Laws, Leaving}
+use Rattle.calculus.specs.Books.{L, R, N, RuleBook, Laws}
 use Rattle.calculus.specs.Nets.{Net, Good, Active, Pair as CPair}
-use Rattle.calculus.specs.Rewriting.{stand, Outside, Unused, along, Leads, stays, crosses, Rewriting}
+use Rattle.calculus.specs.Rewriting.{Outside, Unused, along, Leads, stays, crosses, Rewriting}
 use Rattle.calculus.specs.Theorems.{Disjoint}
 use Rattle.calculus.proofs.Respects.{pairs_apart_lem}
 use Rattle.calculus.proofs.Places.{look, nth_some}
 use Rattle.calculus.proofs.Tests.{nth_within}
 use Rattle.calculus.proofs.Wiring.{number}
-use Rattle.nets.specs.Rewrites.{seat}
+use Rattle.nets.specs.ByBook.{seat}
 use Rattle.pairs.specs.Pairs.{lower, Became}
 use Rattle.pairs.specs.Gathering.{neighbours}
 use Rattle.pairs.proofs.Members.{has_split, has_take, take_has, Apart, apart-append, at_apart}

@@ -1,5 +1,5 @@
 -- The pairs gathered after a rewrite are those that became active. Assumes nothing.
-use Rattle.std.proofs.Common.{◌≡◌, ℕ, ◌<◌, ◌≤◌, ◌⊎◌, List, ◌++◌, length, get_or, take, sym, refl, ap, ◌∙◌, subst, ap₂, inl, inr, arith}
+use Rattle.std.proofs.Common.{◌≡◌, ℕ, ◌<◌, ◌≤◌, ◌⊎◌, List, ◌++◌, length, get_or, take, sym, ap, ◌∙◌, subst, inl, inr, arith}
 use Rattle.std.specs.List.{ContainsAt as Has}
 use Rattle.calculus.specs.Books.{RuleBook, Laws}
 use Rattle.calculus.specs.Nets.{Net, Good, Active, Pair as CPair}
@@ -8,9 +8,9 @@ use Rattle.calculus.proofs.Respects.{pairs_apart_lem}
 use Rattle.strategies.specs.declared.pair.Pair.{Pair as Waiting}
 use Rattle.nets.specs.declared.table.Table.{Table}
 use Rattle.nets.specs.Meaning.{net, OfBook}
-use Rattle.nets.specs.Rewrites.{Rewrote}
+use Rattle.nets.specs.ByBook.{RewroteAt}
 use Rattle.nets.proofs.Standing.{good}
-use Rattle.pairs.specs.Pairs.{waiting, lower, PairAt, Became}
+use Rattle.pairs.specs.Pairs.{waiting, lower, Became}
 use Rattle.pairs.specs.Forming.{FormedBy}
 use Rattle.pairs.specs.Gathering.{neighbours, Whole, Gathered}
 use Rattle.pairs.proofs.Members.{apart_at}
@@ -25,7 +25,7 @@ its_cells K A laws G P Q p x y e side = sym (ap (λ (w : Waiting). w.cells) e) �
     go (inl z) = ap (λ (v : CPair). length v.rule.cells) (sym z)
     go (inr d) = elim side [ inl z ↦ absurd (d.left_left (sym z)) | inr z ↦ absurd (d.left_right (sym z)) ]
 
-module _ (K : RuleBook) (laws : Laws K) (s t : Table) (P : CPair) (places : List ℕ) (ofb : OfBook K s) (W : Rewrote K s P places t) (four : length places ≡ 4)
+module _ (K : RuleBook) (laws : Laws K) (s t : Table) (P : CPair) (places : List ℕ) (ofb : OfBook K s) (W : RewroteAt K s P places t) (four : length places ≡ 4)
     (cs : List ℕ) (few : length cs ≤ 8) (is : cs ≡ neighbours (net s) P.left P.right ++ take (length P.rule.cells) places) where
   G : Good K (net s)
   G = good s K ofb

@@ -1,13 +1,11 @@
 -- The active pair at a place, by kinds and facing. Assumes nothing.
-use Rattle.std.proofs.Common.{◌≡◌, ℕ, ◌+◌, ◌<◌, ◌≤◌, ◌≢◌, ◌⊎◌, length, Some, None, Option, sym, refl, ap, ◌∙◌, subst, inl, inr, arith}
-use Rattle.std.specs.List.{slice_get}
+use Rattle.std.proofs.Common.{◌≡◌, ℕ, ◌<◌, ◌≤◌, ◌≢◌, ◌⊎◌, Some, None, sym, refl, ap, ◌∙◌, subst, inl, inr, arith}
 use Rattle.calculus.specs.Spots.{Spot, port}
-use Rattle.calculus.specs.Books.{Rule, RuleBook, Laws}
+use Rattle.calculus.specs.Books.{RuleBook, Laws}
 use Rattle.calculus.specs.Nets.{Net, Active, Pair as CPair}
 use Rattle.books.specs.declared.table.RuleTable.{RuleTable}
 use Rattle.books.specs.Answers.{Meant, Found, Answers}
-use Rattle.strategies.specs.declared.pair.Pair.{Pair as Waiting}
-use Rattle.pairs.specs.Pairs.{waiting, PairAt}
+use Rattle.pairs.specs.Pairs.{PairAt}
 use Rattle.pairs.specs.Gathering.{Across}
 
 -- the cells of an active pair are two

@@ -1,7 +1,6 @@
 -- Different active pairs share no cell, so they are at most half as many as the places that hold them. Assumes nothing.
-use Rattle.std.proofs.Common.{◌≡◌, ℕ, zero, suc, ◌+◌, ◌*◌, ◌/◌, ◌%◌, ◌<◌, ◌≤◌, ◌≢◌, ◌⊎◌, List, length, Some, sym, refl, ap, ◌∙◌, subst, inl, inr, arith}
+use Rattle.std.proofs.Common.{◌≡◌, ℕ, zero, suc, ◌*◌, ◌/◌, ◌%◌, ◌<◌, ◌≤◌, ◌⊎◌, List, length, Some, sym, refl, ap, ◌∙◌, inl, inr, arith}
 use Rattle.std.specs.List.{ContainsAt as Has, slice_get}
-use Rattle.std.proofs.lemmas.Bool.{cases_eq}
 use Rattle.calculus.specs.Books.{RuleBook, Laws}
 use Rattle.calculus.specs.Nets.{Net, Good, Active, Pair as CPair}
 use Rattle.calculus.specs.Theorems.{Disjoint}

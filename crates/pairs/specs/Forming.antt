@@ -3,10 +3,10 @@ use Rattle.std.specs.Prelude.{◌≡◌, ℕ, List, map, take, Ok, Err, Result}
 use Rattle.calculus.specs.Books.{RuleBook}
 use Rattle.calculus.specs.Nets.{Active, Pair as CPair}
 use Rattle.strategies.specs.declared.pair.Pair.{Pair as Waiting}
-use Rattle.nets.specs.declared.fault.RewriteFault.{RewriteFault}
+use Rattle.nets.specs.declared.fault.PairFault.{PairFault}
 use Rattle.nets.specs.declared.table.Table.{Table}
 use Rattle.nets.specs.Meaning.{net, OfBook}
-use Rattle.nets.specs.Rewrites.{At, Rewrote}
+use Rattle.nets.specs.ByBook.{At, RewroteAt}
 use Rattle.pairs.specs.declared.formed.Formed.{Formed}
 use Rattle.pairs.specs.Pairs.{waiting, InOrder, Became}
 
@@ -17,12 +17,12 @@ formed f = take f.count f.pairs
 -- P was rewritten, and these pairs became active by it, in order
 pub record FormedBy (K : RuleBook) (s : Table) (P : CPair) (t : Table) (ps : List Waiting) : Type 0 where
   pub places : List ℕ
-  pub rewrote : Rewrote K s P places t
+  pub rewrote : RewroteAt K s P places t
   pub pairs : List CPair
   pub became : InOrder (Became K (net s) P (net t)) pairs
   pub same : ps ≡ map waiting pairs
 
 -- the active pair of these places, in a table of the book, is rewritten, and the answer has the pairs that became active by it
-abbrev pub Forms : RuleBook → Table → ℕ → ℕ → Table → Result Formed RewriteFault → Type 0
+abbrev pub Forms : RuleBook → Table → ℕ → ℕ → Table → Result Formed PairFault → Type 0
 Forms K s p q t (Ok f) = OfBook K s → (P : CPair) → At p q P → Active K (net s) P → FormedBy K s P t (formed f)
 Forms K s p q t (Err e) = Unit {0}

@@ -1,9 +1,9 @@
 -- What the private functions that gather pairs tell each other; no public contract cites it. Assumes nothing.
-use Rattle.std.specs.Prelude.{◌≡◌, ℕ, zero, suc, ◌+◌, ◌<◌, ◌≤◌, min, Bool, true, false, cond, ◌≢◌, ◌⊎◌, List, [], ◌∷◌, ◌++◌, map, length, take, Some, None, Option, nat_lt, slice_index}
+use Rattle.std.specs.Prelude.{◌≡◌, ℕ, zero, suc, ◌<◌, ◌≤◌, min, Bool, true, false, cond, ◌≢◌, ◌⊎◌, List, [], ◌∷◌, ◌++◌, map, length, take, Some, None, Option, nat_lt, slice_index}
 use Rattle.std.specs.List.{ContainsAt as Has}
 use Rattle.calculus.specs.Spots.{Spot, end, port}
 use Rattle.calculus.specs.Books.{RuleBook}
-use Rattle.calculus.specs.Nets.{Net, Good, Active, Pair as CPair}
+use Rattle.calculus.specs.Nets.{Net, Active, Pair as CPair}
 use Rattle.strategies.specs.declared.pair.Pair.{Pair as Waiting}
 use Rattle.pairs.specs.declared.noted.Noted.{Noted}
 use Rattle.pairs.specs.Pairs.{waiting, lower, InOrder}

@@ -12,7 +12,7 @@ use strategies::pair::Pair;
 
 /// The active pair with a cell in a place, if there is one.
 pub fn active_pair<B: Book>(book: &B, table: &Table, place: u16) -> Option<Pair>
-    ensures { PairAt (meaning book.now) (net table.now) place result }
+    ensures { PairAt (B.meaning book.now) (net table.now) place result }
 {
     let kind = table.kind(place)?;
     let other = cell_across(table, place, 0)?;

@@ -72,8 +72,8 @@ pub(crate) fn add_first(cells: &mut Noted, places: &[u16; 4], n: u8)
 
 // The active pairs with their lower cell in the places noted, in order.
 pub(crate) fn gather<B: Book>(book: &B, table: &Table, cells: &Noted) -> Formed
-    ensures { Good (meaning book.now) (net table.now) → Whole (meaning book.now) (net table.now) (noted cells.now) →
-        Gathered (meaning book.now) (net table.now) (noted cells.now) (formed result) }
+    ensures { Good (B.meaning book.now) (net table.now) → Whole (B.meaning book.now) (net table.now) (noted cells.now) →
+        Gathered (B.meaning book.now) (net table.now) (noted cells.now) (formed result) }
 {
     let mut found = no_pairs();
     for i in 0..cells.count {
@@ -101,7 +101,7 @@ fn no_pairs() -> Formed
 
 // The active pair whose lower cell stands in a place, if there is one.
 fn led_by<B: Book>(book: &B, table: &Table, place: u16) -> Option<Pair>
-    ensures { Good (meaning book.now) (net table.now) → LedBy (meaning book.now) (net table.now) place result }
+    ensures { Good (B.meaning book.now) (net table.now) → LedBy (B.meaning book.now) (net table.now) place result }
 {
     let pair = active_pair(book, table, place)?;
     if lower(pair) == place {

@@ -1,12 +1,12 @@
 // One pair rewritten, and the pairs that become active by it.
-ghost use Rattle.nets.specs.Rewrites.{Due};
+ghost use Rattle.nets.specs.ByBook.{PairDue};
 ghost use Rattle.pairs.specs.Forming.{Forms};
 
 use crate::active::active_pair;
 use crate::formed::Formed;
 use crate::gather::{add_first, gather, neighbours};
 use books::book::Book;
-use nets::fault::RewriteFault;
+use nets::fault::PairFault;
 use nets::table::Table;
 
 /// Rewrites the active pair of the cells in two places, L first, by the book's rule, and answers the pairs that became active by it, by rising lower place.
@@ -16,15 +16,15 @@ pub fn rewrite_pair<B: Book>(
     table: &mut Table,
     left: u16,
     right: u16,
-) -> Result<Formed, RewriteFault>
-    ensures due { Due (meaning book.now) table.old left right table.new result }
-    ensures forms { Forms (meaning book.now) table.old left right table.new result }
+) -> Result<Formed, PairFault>
+    ensures due { PairDue (B.meaning book.now) table.old left right table.new result }
+    ensures forms { Forms (B.meaning book.now) table.old left right table.new result }
 {
     let Some(pair) = active_pair(book, table, left) else {
-        return Err(RewriteFault::NotReady);
+        return Err(PairFault::NotReady);
     };
     let mut cells = neighbours(table, left, right);
-    let places = table.rewrite(book, left, right)?;
+    let places = table.rewrite_pair(book, left, right)?;
     add_first(&mut cells, &places, pair.cells);
     Ok(gather(book, table, &cells))
 }

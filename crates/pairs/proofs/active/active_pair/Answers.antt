@@ -1,4 +1,4 @@
-use Rattle.std.proofs.Common.{◌≡◌, sym, ◌∙◌}
+use Rattle.std.proofs.Common.{sym}
 use Rattle.nets.specs.Meaning.{net}
 use Rattle.nets.proofs.Standing.{twice}
 use Rattle.pairs.proofs.Meeting.{no_cell, no_other, no_second, no_rule, as_left, as_right}
@@ -26,14 +26,14 @@ returns-in_err-rule g c =
     (no_rule (g.B.Book.meaning c.args.book.now) (g.met.B.Book.lawful c.args.book.now) (net c.args.table.now) (twice c.args.table.now) c.args.place c.in_ok-other.other
     c.in_ok-other.ensures.0 c.in_ok-kind.kind c.in_ok-across.across (sym c.in_ok-kind.ensures) (sym c.in_ok-across.ensures) c.in_err-rule.ensures)
 
-pub returns-then-is-left : goal.returns-then-is-left
-returns-then-is-left g c =
+pub returns-then-is_left : goal.returns-then-is_left
+returns-then-is_left g c =
     as_left (g.B.Book.meaning c.args.book.now) (g.met.B.Book.lawful c.args.book.now) (net c.args.table.now) (twice c.args.table.now) c.args.place c.in_ok-other.other
     c.in_ok-other.ensures.0 c.in_ok-kind.kind c.in_ok-across.across (sym c.in_ok-kind.ensures) (sym c.in_ok-across.ensures)
-    c.in_ok-rule.rule.now c.in_ok-rule.ensures c.if-is-left.ensures
+    c.in_ok-rule.rule.now c.in_ok-rule.ensures c.if-is_left.ensures
 
 pub returns : goal.returns
 returns g c =
     as_right (g.B.Book.meaning c.args.book.now) (g.met.B.Book.lawful c.args.book.now) (net c.args.table.now) (twice c.args.table.now) c.args.place c.in_ok-other.other
     c.in_ok-other.ensures.0 c.in_ok-kind.kind c.in_ok-across.across (sym c.in_ok-kind.ensures) (sym c.in_ok-across.ensures)
-    c.in_ok-rule.rule.now c.in_ok-rule.ensures c.in_ok-other.ensures.1 c.if-is-left.ensures
+    c.in_ok-rule.rule.now c.in_ok-rule.ensures c.in_ok-other.ensures.1 c.if-is_left.ensures

@@ -1,4 +1,4 @@
-use Rattle.std.proofs.Common.{◌≡◌, sym, ap, ◌∙◌}
+use Rattle.std.proofs.Common.{sym, ap, ◌∙◌}
 use Rattle.nets.specs.Meaning.{net}
 use Rattle.pairs.specs.Gathering.{least}
 use Rattle.pairs.proofs.Gathers.{led_none, led_other}
