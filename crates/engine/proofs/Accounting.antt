@@ -1,5 +1,5 @@
 -- One account after another. Assumes nothing.
-use Rattle.std.proofs.Common.{List, [], ◌∷◌, ◌++◌, Result}
+use Rattle.std.proofs.Common.{List, ◌++◌, Result}
 use Rattle.calculus.specs.Books.{RuleBook}
 use Rattle.refusals.specs.declared.faults.StrategyFault.{StrategyFault}
 use Rattle.strategies.specs.declared.pair.Pair.{Pair as Waiting}

@@ -1,26 +1,22 @@
 -- Any two runs agree. Assumes nothing.
-use Rattle.std.proofs.Common.{◌≡◌, ℕ, ◌+◌, ◌<◌, ◌≤◌, List, [], ◌∷◌, ◌++◌, length, Ok, Err, Result, sym, refl, ap, ◌∙◌, subst, ap₂, arith, length-append}
+use Rattle.std.proofs.Common.{◌≡◌, ℕ, ◌+◌, List, [], ◌∷◌, ◌++◌, length, Ok, Err, Result, sym, refl, subst, arith, length-append}
 use Rattle.calculus.specs.Books.{RuleBook, Laws}
 use Rattle.calculus.specs.Nets.{Good, AtRest}
 use Rattle.calculus.specs.Nets.{Net as CNet}
 use Rattle.calculus.specs.Nets.{Pair as CPair}
-use Rattle.calculus.specs.Reaching.{Step, Reaches}
+use Rattle.calculus.specs.Reaching.{Reaches}
 use Rattle.calculus.specs.Reaching.Reaches.{none as stay, step as then}
 use Rattle.calculus.specs.Alike.{Alike}
-use Rattle.calculus.specs.Theorems.{Meeting}
 use Rattle.calculus.proofs.Respects.{equivalence}
 use Rattle.calculus.proofs.Grid.{confluent, rest_final_lem}
 use Rattle.refusals.specs.declared.faults.StrategyFault.{StrategyFault}
 use Rattle.strategies.specs.declared.pair.Pair.{Pair as Waiting}
 use Rattle.ledger.specs.Places.{Places}
 use Rattle.engine.specs.declared.net.Net.{Net}
-use Rattle.engine.specs.declared.sealed.Sealed.{Sealed}
 use Rattle.engine.specs.declared.run.Run.{Run}
 use Rattle.engine.specs.States.{held, now_on, Proper}
-use Rattle.engine.specs.Running.{Running}
-use Rattle.engine.specs.Calls.{Opens}
-use Rattle.engine.specs.Accounts.{Event, draw, rewrite, put_back, drive, close, leave, Account, pairs_out, made, Tells}
-use Rattle.engine.specs.Agreement.{Interaction, Chain, Moves, Way, Final, Meets, Moment, Agree, AnyTwoAgree}
+use Rattle.engine.specs.Accounts.{Event, draw, rewrite, put_back, drive, close, leave, Account, pairs_out, made}
+use Rattle.engine.specs.Agreement.{Interaction, Chain, Moves, Way, Final, Meets, Moment, AnyTwoAgree}
 use Rattle.engine.specs.Agreement.Chain.{none as unmoved, next as moved_by}
 use Rattle.engine.specs.Agreement.Way.{opened as at_first, moved as moved_on}
 use Rattle.engine.proofs.Keeping.{good_of}

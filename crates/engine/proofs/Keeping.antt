@@ -1,5 +1,5 @@
 -- Each call keeps what is true of a run. Assumes nothing.
-use Rattle.std.proofs.Common.{◌≡◌, ℕ, ◌+◌, ◌<◌, ◌≤◌, Bool, true, false, ◌≢◌, ◌⊎◌, List, [], ◌∷◌, ◌++◌, map, length, get_or, set, Some, sym, refl, ap, ◌∙◌, subst, ap₂, inl, inr, arith, length-append}
+use Rattle.std.proofs.Common.{◌≡◌, ℕ, ◌+◌, ◌<◌, ◌≤◌, Bool, true, false, ◌⊎◌, List, [], ◌∷◌, ◌++◌, map, length, set, Some, sym, refl, ap, ◌∙◌, subst, ap₂, inl, inr, arith, length-append}
 use Rattle.std.specs.List.Sorted.{IsPermutation}
 use Rattle.std.specs.List.{ContainsAt as Has}
 use Rattle.std.proofs.lemmas.List.Sorted.{IsPermutation-sym}
@@ -12,17 +12,16 @@ use Rattle.strategies.specs.declared.pair.Pair.{Pair as Waiting}
 use Rattle.nets.specs.Meaning.{content, OfBook}
 use Rattle.nets.proofs.Places.{bit_low}
 use Rattle.nets.proofs.Standing.{good, kind_some}
-use Rattle.ledger.specs.Places.{Places, places, times_out, times_waiting, without, CellOf}
+use Rattle.ledger.specs.Places.{Places, places, times_waiting, without}
 use Rattle.ledger.specs.Ledger.{Balanced, Marked}
-use Rattle.ledger.proofs.Members.{In, has_in, in_has}
-use Rattle.ledger.proofs.Times.{spot, times_in}
+use Rattle.ledger.proofs.Members.{in_has}
+use Rattle.ledger.proofs.Times.{times_in}
 use Rattle.ledger.proofs.Balance.{one_pair, reordered, drawn, alone, returned, rewritten, few, opened, marked_drawn, marked_off, marked_none}
 use Rattle.engine.specs.declared.net.Net.{Net}
 use Rattle.engine.specs.declared.run.Run.{Run}
-use Rattle.engine.specs.declared.slip.Slip.{Slip}
-use Rattle.nets.specs.Rewrites.{Ready, Rewrote}
+use Rattle.nets.specs.ByBook.{RewroteAt}
 use Rattle.pairs.specs.Pairs.{InOrder, Became, waiting}
-use Rattle.engine.specs.States.{held, now_on, Proper, marked, slip_places}
+use Rattle.engine.specs.States.{held, now_on, Proper, marked}
 use Rattle.engine.specs.Running.{Running}
 
 module _ {B S : Type 0} (mean : B → RuleBook) (laws : (b : B) → Laws (mean b)) (bag : S → List Waiting) where
@@ -104,7 +103,7 @@ module _ {B S : Type 0} (mean : B → RuleBook) (laws : (b : B) → Laws (mean b
           omega arith
 
       -- a rewrite
-      module _ (n : Net B) (eb : n.book ≡ x.net.book) (seats : List ℕ) (W : Rewrote (mean x.net.book) x.net.table P seats n.table) (qs : List CPair) (order : InOrder (Became (mean x.net.book) (now_on x) P (held n)) qs) where
+      module _ (n : Net B) (eb : n.book ≡ x.net.book) (seats : List ℕ) (W : RewroteAt (mean x.net.book) x.net.table P seats n.table) (qs : List CPair) (order : InOrder (Became (mean x.net.book) (now_on x) P (held n)) qs) where
         proper_n : Proper mean n
         proper_n = subst (λ (b : B). OfBook (mean b) n.table) (sym eb) W.of_book
 

@@ -1,24 +1,22 @@
 -- What an account tells of its run, call by call. Assumes nothing.
-use Rattle.std.proofs.Common.{◌≡◌, ℕ, ◌+◌, ◌<◌, ◌≤◌, Bool, true, false, cond, ◌≢◌, ◌⊎◌, List, [], ◌∷◌, length, Ok, Err, Result, sym, refl, ap, ◌∙◌, subst, ap₂, inl, inr, arith}
+use Rattle.std.proofs.Common.{◌≡◌, ℕ, ◌+◌, Bool, true, false, cond, List, ◌∷◌, Ok, Err, Result, sym, refl, ap, ◌∙◌, subst, ap₂, inl, inr, arith}
 use Rattle.std.specs.List.{ContainsAt as Has}
 use Rattle.calculus.specs.Books.{RuleBook, Laws}
 use Rattle.calculus.specs.Nets.{Active}
-use Rattle.calculus.specs.Nets.{Net as CNet}
 use Rattle.calculus.specs.Nets.{Pair as CPair}
 use Rattle.refusals.specs.declared.faults.StrategyFault.{StrategyFault}
-use Rattle.refusals.specs.declared.faults.RunFault.{RunFault}
 use Rattle.strategies.specs.declared.pair.Pair.{Pair as Waiting}
-use Rattle.ledger.specs.Places.{Places, places, are, times_out, times_waiting, without}
-use Rattle.ledger.proofs.Members.{In, has_in, in_has}
+use Rattle.ledger.specs.Places.{Places, places, without}
+use Rattle.ledger.proofs.Members.{has_in, in_has}
 use Rattle.ledger.proofs.Times.{one_same, out_cons, in_times, same_are}
 use Rattle.engine.specs.declared.net.Net.{Net}
 use Rattle.engine.specs.declared.sealed.Sealed.{Sealed}
 use Rattle.engine.specs.declared.run.Run.{Run}
 use Rattle.engine.specs.declared.slip.Slip.{Slip}
-use Rattle.nets.specs.Rewrites.{At, Ready, seat}
-use Rattle.engine.specs.States.{held, now_on, Proper, marked, slip_places}
+use Rattle.nets.specs.ByBook.{seat}
+use Rattle.engine.specs.States.{held, now_on, Proper, slip_places}
 use Rattle.engine.specs.Running.{Running}
-use Rattle.engine.specs.Calls.{Opens, Drew, Draws, OutHere, Accepted, Spends, Returned, PutsBack, Turns, Stops, Drives}
+use Rattle.engine.specs.Calls.{Opens, Drew, OutHere, Accepted, PutsBack, Turns, Stops, Drives}
 use Rattle.engine.specs.Calls.Turns.{none, turn}
 use Rattle.engine.specs.Calls.Stops.{done, empty, refused}
 use Rattle.engine.specs.Accounts.{Event, draw, rewrite, put_back, drive, close, leave, Account, pairs_out, made, Calls, Tells}

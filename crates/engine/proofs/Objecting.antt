@@ -1,20 +1,19 @@
 -- Which answer is due to a rewrite, and what an accepted one does. Assumes nothing.
-use Rattle.std.proofs.Common.{◌≡◌, ℕ, ◌+◌, ◌<◌, ◌≤◌, ◌⊎◌, List, [], ◌∷◌, ◌++◌, map, length, Some, Result, sym, refl, ap, ◌∙◌, subst, inl, inr, arith}
+use Rattle.std.proofs.Common.{◌≡◌, ℕ, ◌<◌, ◌⊎◌, List, [], ◌∷◌, map, length, Some, Result, sym, refl, ap, ◌∙◌, subst, inl, inr, arith}
 use native.Mathlib.Nat.{ℕ_set}
 use Rattle.calculus.specs.Books.{RuleBook, Laws}
 use Rattle.calculus.specs.Nets.{Pair as CPair}
 use Rattle.refusals.specs.declared.faults.StrategyFault.{StrategyFault}
 use Rattle.strategies.specs.declared.pair.Pair.{Pair as Waiting}
-use Rattle.nets.specs.declared.fault.RewriteFault.{RewriteFault}
-use Rattle.nets.specs.declared.fault.RewriteFault.TheVariants.{NotReady, LoopsFull, NoPlace}
+use Rattle.nets.specs.declared.fault.PairFault.{PairFault}
+use Rattle.nets.specs.declared.fault.PairFault.TheVariants.{NotReady, LoopsFull, NoPlace}
 use Rattle.nets.specs.declared.table.Table.{Table}
-use Rattle.engine.specs.declared.net.Net.{Net}
 use Rattle.engine.specs.declared.run.Run.{Run}
 use Rattle.engine.specs.declared.slip.Slip.{Slip}
 use Rattle.calculus.specs.Nets.{Active}
 use Rattle.std.specs.List.{ContainsAt as Has}
 use Rattle.ledger.specs.Places.{Places, places}
-use Rattle.nets.specs.Rewrites.{At, Ready, Cause}
+use Rattle.nets.specs.ByBook.{At, Ready, PairCause}
 use Rattle.pairs.specs.Pairs.{PairAt, waiting}
 use Rattle.pairs.specs.Forming.{FormedBy}
 use Rattle.engine.specs.States.{now_on}
@@ -31,7 +30,7 @@ module _ {B S : Type 0} (mean : B → RuleBook) (bag : S → List Waiting) (putt
   pub is_here : (P : CPair) → Presented x s → At s.left s.right P → Ready (mean x.net.book) x.net.table P → OutHere mean bag putting taking x s P
   is_here P F a r = record { stamp = F.stamp; left = F.left; right = F.right; at = a; ready = r }
 
-  pub objects : (f : RewriteFault) → Presented x s → x.count < 100000000 → Cause (mean x.net.book) x.net.table s.left s.right f → Objects mean bag putting taking x s (run_fault f)
+  pub objects : (f : PairFault) → Presented x s → x.count < 100000000 → PairCause (mean x.net.book) x.net.table s.left s.right f → Objects mean bag putting taking x s (run_fault f)
   objects NotReady F l c = λ P o. c P o.at o.ready
   objects LoopsFull F l (P, a, r, n) = ((P, is_here P F a r), inr n)
   objects NoPlace F l (P, a, r, e, n) = (P, is_here P F a r, λ h. elim h [ inl z ↦ omega arith | inr z ↦ z e ], n)

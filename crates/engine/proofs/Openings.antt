@@ -1,7 +1,7 @@
 -- Two legal choices of places for the new cells of one pair. Assumes nothing.
-use Rattle.std.proofs.Common.{◌≡◌, ℕ, zero, suc, ◌<◌, ◌≢◌, ◌⊎◌, [], ◌∷◌, get_or, Some, None, Option, sym, refl, ap, ◌∙◌, inl, inr, arith}
+use Rattle.std.proofs.Common.{◌≡◌, ℕ, zero, suc, ◌<◌, ◌⊎◌, [], ◌∷◌, get_or, Some, None, sym, refl, ap, ◌∙◌, inl, inr, arith}
 use Rattle.std.specs.List.{slice_get}
-use Rattle.calculus.specs.Nets.{Net, Good, Pair, Active}
+use Rattle.calculus.specs.Nets.{Net, Pair, Active}
 use Rattle.calculus.specs.Combinators.{γ, δ, γδ, combinators}
 use Rattle.calculus.specs.Drawn.{drawn}
 use Rattle.calculus.specs.Worked.{doubled}

@@ -1,20 +1,20 @@
 -- The active pairs of a net put one after the other, place by place. Assumes nothing.
-use Rattle.std.proofs.Common.{◌≡◌, ℕ, ◌+◌, ◌<◌, ◌≤◌, min, ◌≢◌, ◌⊎◌, List, [], ◌∷◌, ◌++◌, map, length, Some, None, Ok, Err, Option, Result, sym, refl, ap, ◌∙◌, subst, inl, inr, arith}
+use Rattle.std.proofs.Common.{◌≡◌, ℕ, ◌+◌, ◌<◌, min, ◌≢◌, ◌⊎◌, List, [], ◌∷◌, ◌++◌, map, length, Some, None, Result, sym, refl, ap, ◌∙◌, subst, inl, inr, arith}
 use Rattle.std.proofs.lemmas.Bool.{cases_lt}
 use Rattle.calculus.specs.Books.{RuleBook, Laws}
-use Rattle.calculus.specs.Nets.{Good, Active}
+use Rattle.calculus.specs.Nets.{Active}
 use Rattle.calculus.specs.Nets.{Pair as CPair}
 use Rattle.refusals.specs.declared.faults.StrategyFault.{StrategyFault}
 use Rattle.strategies.specs.declared.pair.Pair.{Pair as Waiting}
 use Rattle.strategies.specs.Bags.{Put}
-use Rattle.ledger.proofs.Members.{In, has_in, in_has, in_append}
-use Rattle.ledger.proofs.Balance.{Climbing, climbing, one_pair}
+use Rattle.ledger.proofs.Members.{in_has}
+use Rattle.ledger.proofs.Balance.{climbing, one_pair}
 use Rattle.ledger.proofs.Orders.{order_none, order_skip, order_more, order_all, few_listed}
 use Rattle.engine.specs.declared.net.Net.{Net}
 use Rattle.pairs.specs.Pairs.{PairAt, InOrder, waiting, lower}
 use Rattle.engine.specs.States.{held, Proper}
 use Rattle.engine.specs.Calls.{Puts}
-use Rattle.engine.specs.Calls.Puts.{none, put}
+use Rattle.engine.specs.Calls.Puts.{none}
 use Rattle.engine.specs.Inner.{PutUpTo}
 use Rattle.engine.proofs.Puttings.{puts_add, puts-length}
 use Rattle.engine.proofs.Keeping.{good_of, small_of}

@@ -1,5 +1,5 @@
 -- Accounts: the calls made on a run since it was opened, and their answers. Assumes nothing.
-use Rattle.std.specs.Prelude.{◌≡◌, ℕ, ◌+◌, Bool, true, false, List, [], ◌∷◌, Ok, Err, Result}
+use Rattle.std.specs.Prelude.{ℕ, ◌+◌, Bool, true, false, List, [], ◌∷◌, Ok, Err, Result}
 use Rattle.calculus.specs.Books.{RuleBook}
 use Rattle.refusals.specs.declared.faults.StrategyFault.{StrategyFault}
 use Rattle.refusals.specs.declared.faults.RunFault.{RunFault}

@@ -1,8 +1,8 @@
 -- Any two runs agree. Assumes nothing.
-use Rattle.std.specs.Prelude.{◌≡◌, ℕ, ◌+◌, ◌<◌, ◌≤◌, true, false, ◌⊎◌, List, [], ◌∷◌, ◌++◌, length, Ok, Err, Result}
+use Rattle.std.specs.Prelude.{◌≡◌, ℕ, ◌+◌, ◌<◌, ◌≤◌, List, [], ◌∷◌, length, Ok, Err, Result}
 use Rattle.std.specs.List.{ContainsAt as Has}
 use Rattle.calculus.specs.Books.{RuleBook}
-use Rattle.calculus.specs.Nets.{Good, Active, AtRest}
+use Rattle.calculus.specs.Nets.{Good, AtRest}
 use Rattle.calculus.specs.Nets.{Net as CNet}
 use Rattle.calculus.specs.Nets.{Pair as CPair}
 use Rattle.calculus.specs.Rewriting.{Rewriting}
@@ -13,7 +13,6 @@ use Rattle.refusals.specs.declared.faults.StrategyFault.{StrategyFault}
 use Rattle.strategies.specs.declared.pair.Pair.{Pair as Waiting}
 use Rattle.engine.specs.declared.sealed.Sealed.{Sealed}
 use Rattle.engine.specs.declared.run.Run.{Run}
-use Rattle.engine.specs.declared.slip.Slip.{Slip}
 use Rattle.engine.specs.declared.progress.Progress.{Progress}
 use Rattle.engine.specs.declared.progress.Progress.TheVariants.{Behind, Level, Ahead}
 use Rattle.ledger.specs.Places.{Places, places}

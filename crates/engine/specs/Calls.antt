@@ -10,12 +10,12 @@ use Rattle.refusals.specs.declared.faults.RunFault.TheVariants.{Foreign, NoPlace
 use Rattle.refusals.specs.Faults.{run_refusal}
 use Rattle.strategies.specs.declared.pair.Pair.{Pair as Waiting}
 use Rattle.strategies.specs.Bags.{Put, Taken, Cleared}
-use Rattle.engine.specs.declared.net.Net.{Net}
 use Rattle.engine.specs.declared.sealed.Sealed.{Sealed}
 use Rattle.engine.specs.declared.normal.Normal.{Normal}
 use Rattle.engine.specs.declared.run.Run.{Run}
 use Rattle.engine.specs.declared.slip.Slip.{Slip}
-use Rattle.nets.specs.Rewrites.{At, Ready, LoopsFree, PlacesFree, Rewrote}
+use Rattle.nets.specs.Rewrites.{LoopsFree}
+use Rattle.nets.specs.ByBook.{At, Ready, RoomForRule, RewroteAt}
 use Rattle.pairs.specs.Pairs.{InOrder, Became, waiting}
 use Rattle.engine.specs.States.{now_on, Proper, marked, slip_places}
 use Rattle.ledger.specs.Places.{Places, without}
@@ -74,13 +74,13 @@ module _ {B S : Type 0} (mean : B → RuleBook) (bag : S → List Waiting) (putt
   abbrev pub Objects : Run B S → Slip → RunFault → Type 0
   Objects x s Foreign = (P : CPair) → OutHere x s P → ⊥
   Objects x s Spent = ((P : CPair) × OutHere x s P) × IsSpent x
-  Objects x s NoPlace = (P : CPair) × OutHere x s P × (IsSpent x → ⊥) × (PlacesFree x.net.table P → ⊥)
+  Objects x s NoPlace = (P : CPair) × OutHere x s P × (IsSpent x → ⊥) × (RoomForRule x.net.table P → ⊥)
   Objects x s Busy = ⊥
 
   -- a rewrite that is not refused: the slip's pair is rewritten by its rule, the new cells in places of their own and every other cell in its place; one interaction more; its cells are unmarked; and each pair that became active is put, by rising lower place
   pub record Rewrites (x : Run B S) (s : Slip) (P : CPair) (y : Run B S) : Type 0 where
     pub seats : List ℕ
-    pub rewrote : Rewrote (mean x.net.book) x.net.table P seats y.net.table
+    pub rewrote : RewroteAt (mean x.net.book) x.net.table P seats y.net.table
     pub became : List CPair
     pub order : InOrder (Became (mean x.net.book) (now_on x) P (now_on y)) became
     pub puts : Puts bag putting x.strategy (map waiting became) y.strategy
@@ -89,7 +89,7 @@ module _ {B S : Type 0} (mean : B → RuleBook) (bag : S → List Waiting) (putt
     pub pair : CPair
     pub out_here : OutHere x s pair
     pub unspent : IsSpent x → ⊥
-    pub room : PlacesFree x.net.table pair
+    pub room : RoomForRule x.net.table pair
     pub marks : y.marks ≡ slice_set (slice_set x.marks s.left false) s.right false
     pub book : y.net.book ≡ x.net.book
     pub stamp : y.stamp ≡ x.stamp

@@ -7,12 +7,12 @@ use Rattle.refusals.specs.declared.faults.StrategyFault.{StrategyFault}
 use Rattle.refusals.specs.declared.faults.RunFault.{RunFault}
 use Rattle.refusals.specs.declared.faults.RunFault.TheVariants.{Foreign, NoPlace, Spent}
 use Rattle.strategies.specs.declared.pair.Pair.{Pair as Waiting}
-use Rattle.nets.specs.declared.fault.RewriteFault.{RewriteFault}
-use Rattle.nets.specs.declared.fault.RewriteFault.TheVariants.{NotReady, LoopsFull}
+use Rattle.nets.specs.declared.fault.PairFault.{PairFault}
+use Rattle.nets.specs.declared.fault.PairFault.TheVariants.{NotReady, LoopsFull}
 use Rattle.engine.specs.declared.net.Net.{Net}
 use Rattle.engine.specs.declared.run.Run.{Run}
 use Rattle.engine.specs.declared.slip.Slip.{Slip}
-use Rattle.nets.specs.Rewrites.{At, Ready}
+use Rattle.nets.specs.ByBook.{At, Ready}
 use Rattle.pairs.specs.Pairs.{InOrder, waiting, lower}
 use Rattle.engine.specs.States.{held, Proper, marked}
 use Rattle.engine.specs.Calls.{Puts}
@@ -38,7 +38,7 @@ abbrev pub IsReady : {B S : Type 0} → (B → RuleBook) → Run B S → Slip �
 IsReady mean x s = (P : CPair) × At s.left s.right P × Ready (mean x.net.book) x.net.table P
 
 -- a fault of the table as one of the run
-abbrev pub run_fault : RewriteFault → RunFault
+abbrev pub run_fault : PairFault → RunFault
 run_fault NotReady = Foreign
 run_fault LoopsFull = Spent
-run_fault RewriteFault.NoPlace = NoPlace
+run_fault PairFault.NoPlace = NoPlace

@@ -11,7 +11,7 @@ use Rattle.lambda.specs.Reduction.{steps, normal_form}
 use Rattle.lambda.specs.TermNets.{net}
 use Rattle.lambda.specs.Indices.{Same}
 use Rattle.terms.specs.Named.{Named}
-use Rattle.terms.specs.Bindings.{LinearNamed, term-under, net-under}
+use Rattle.terms.specs.Bindings.{LinearNamed, term_under, net_under}
 use Rattle.binding.specs.Theorems.{Lists}
 use Rattle.engine.specs.declared.sealed.Sealed.{Sealed}
 use Rattle.engine.specs.declared.normal.Normal.{Normal}
@@ -22,15 +22,15 @@ use Rattle.engine.specs.Accounts.{Account, Tells}
 
 -- A is what the linear term t, with the items listed in `is`, comes to in k interactions: k is the number of its beta steps, and A is the net of its normal form; so whatever linear term with these items has the net A is its normal form up to bound names
 pub record ComesTo (is : List (List ℕ)) (t : Named) (k : ℕ) (A : CNet) : Type 0 where
-  pub counted : k ≡ steps (term-under is t)
-  pub net : Alike (net (length is) (normal_form (term-under is t))) A
-  pub reads : (u : Named) → LinearNamed u → Lists is u → Alike (net-under is u) A → Same (term-under is u) (normal_form (term-under is t))
+  pub counted : k ≡ steps (term_under is t)
+  pub net : Alike (net (length is) (normal_form (term_under is t))) A
+  pub reads : (u : Named) → LinearNamed u → Lists is u → Alike (net_under is u) A → Same (term_under is u) (normal_form (term_under is t))
 
 -- a run of the net of a linear term, whatever its strategy and whatever was called, that is closed
 abbrev pub ClosesTerms : {B S : Type 0} → (B → RuleBook) → (S → List Waiting) → (S → S → Type 0) → (S → Waiting → Result (Unit {0}) StrategyFault → S → Type 0) → (S → Result Waiting StrategyFault → S → Type 0) →
     Run B S → Result (Normal B × ℕ × S) (RunFault × Run B S) → Type 0
 ClosesTerms {B} {S} mean bag clearing putting taking y (Ok r) =
     (n : Sealed B) (s : S) (given : ℕ) (x : Run B S) (es : Account) (is : List (List ℕ)) (t : Named) →
-    mean n.net.book ≡ combinators → LinearNamed t → Lists is t → Alike (net-under is t) (held n.net) → Proper mean n.net →
+    mean n.net.book ≡ combinators → LinearNamed t → Lists is t → Alike (net_under is t) (held n.net) → Proper mean n.net →
     Opens mean bag clearing putting n s given x → Tells mean bag putting taking x es y → ComesTo is t r.1 (held r.0.net)
 ClosesTerms mean bag clearing putting taking y (Err e) = Unit {0}

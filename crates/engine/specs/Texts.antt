@@ -5,7 +5,7 @@ use Rattle.books.specs.declared.combinators.Combinators.{Combinators}
 use Rattle.nets.specs.Meaning.{OfBook}
 use Rattle.terms.specs.declared.items.Items.{Items}
 use Rattle.terms.specs.Named.{Named, items as items_of}
-use Rattle.terms.specs.Bindings.{net-under}
+use Rattle.terms.specs.Bindings.{net_under}
 use Rattle.terms.specs.Texts.{Reads}
 use Rattle.terms.specs.Listing.{listed}
 use Rattle.compile.specs.declared.fault.CompileFault.{CompileFault}
@@ -18,7 +18,7 @@ pub record SealedAs (text : List ℕ) (n : Sealed Combinators) (is : Items) : Ty
   pub term : Named
   pub reads : Reads text term
   pub items : listed is ≡ items_of term
-  pub net : held n.net ≡ net-under (items_of term) term
+  pub net : held n.net ≡ net_under (items_of term) term
   pub proper : OfBook combinators n.net.table
 
 -- such a net, or the fault that is due, or that memory is wanting

@@ -23,7 +23,8 @@ pub(crate) fn put_active<B: Book, S: Strategy>(net: &Net<B>, strategy: &mut S)
 {
     for place in 0..1024u16 {
         if let Some(pair) = active_pair(&net.book, &net.table, place) {
-            if place == pair.left.min(pair.right) {
+            let lower = pair.left.min(pair.right);
+            if place == lower {
                 let _ = strategy.put(pair);
             }
         }

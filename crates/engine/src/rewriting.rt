@@ -9,7 +9,7 @@ use crate::putting::put_each;
 use crate::run::Run;
 use crate::slip::Slip;
 use books::book::Book;
-use nets::fault::RewriteFault;
+use nets::fault::PairFault;
 use pairs::rewrite::rewrite_pair;
 use refusals::faults::RunFault;
 use strategies::strategy::Strategy;
@@ -65,21 +65,25 @@ impl<B: Book, S: Strategy> Run<B, S> {
     fn is_ready(&self, slip: &Slip) -> bool
         ensures { Decides result (IsReady B.Book.meaning self.now slip.now) }
     {
-        match self.net.table.check(&self.net.book, slip.left, slip.right) {
-            Some(RewriteFault::NotReady) => false,
-            Some(RewriteFault::LoopsFull) => true,
-            Some(RewriteFault::NoPlace) => true,
+        match self
+            .net
+            .table
+            .check_pair(&self.net.book, slip.left, slip.right)
+        {
+            Some(PairFault::NotReady) => false,
+            Some(PairFault::LoopsFull) => true,
+            Some(PairFault::NoPlace) => true,
             None => true,
         }
     }
 }
 
-fn to_run_fault(fault: RewriteFault) -> RunFault
+fn to_run_fault(fault: PairFault) -> RunFault
     ensures { result ≡ run_fault fault }
 {
     match fault {
-        RewriteFault::NotReady => RunFault::Foreign,
-        RewriteFault::LoopsFull => RunFault::Spent,
-        RewriteFault::NoPlace => RunFault::NoPlace,
+        PairFault::NotReady => RunFault::Foreign,
+        PairFault::LoopsFull => RunFault::Spent,
+        PairFault::NoPlace => RunFault::NoPlace,
     }
 }

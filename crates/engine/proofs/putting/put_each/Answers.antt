@@ -1,10 +1,10 @@
-use Rattle.std.proofs.Common.{◌≡◌, ◌+◌, ◌<◌, List, length, get_or, take, sym, ap, ◌∙◌, subst, arith, length-take}
+use Rattle.std.proofs.Common.{◌≡◌, List, take, subst, arith, length-take}
 use Rattle.std.proofs.lemmas.List.{take_all}
 use Rattle.strategies.specs.declared.pair.Pair.{Pair as Waiting}
 use Rattle.pairs.specs.Forming.{formed}
 use Rattle.engine.specs.Calls.{Puts}
 use Rattle.engine.specs.Calls.Puts.{none}
-use Rattle.engine.proofs.Puttings.{puts_add, puts-length, puts_next}
+use Rattle.engine.proofs.Puttings.{puts_next}
 use Rattle.engine.proofs.putting.put_each.Goals as goal
 
 pub loop-i-init : goal.loop-i-init

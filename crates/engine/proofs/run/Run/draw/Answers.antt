@@ -8,9 +8,9 @@ returns g c = record {
   taken = c.in-Ok.ensures.bags;
   own = c.in-Ok.ensures.own;
   slip = refl;
-  marks = c.set-marks.ensures;
+  marks = c.set_marks.ensures;
   net = refl;
   stamp = refl;
   count = refl;
-  running = λ out R. keeps_drawn g.B.Book.meaning g.met.B.Book.lawful g.S.Strategy.bag c.args.self.now out R _ c.in-Ok.pair c.in-Ok.ensures.bags c.set-marks.ensures refl;
+  running = λ out R. keeps_drawn g.B.Book.meaning g.met.B.Book.lawful g.S.Strategy.bag c.args.self.now out R _ c.in-Ok.pair c.in-Ok.ensures.bags c.set_marks.ensures refl;
 }

@@ -8,20 +8,20 @@ use Rattle.engine.proofs.run.Run.drive.Goals as goal
 pub loop-done-init : goal.loop-done-init
 loop-done-init g c = none
 
-pub returns-in-default : goal.returns-in-default
-returns-in-default g c = record { last = c.loop-done.self; turns = c.loop-done.invariant; stops = empty {f = c.in-default.field-0} c.loop-done-test.true c.in-default.ensures }
+pub returns-in_default : goal.returns-in_default
+returns-in_default g c = record { last = c.loop-done.self; turns = c.loop-done.invariant; stops = empty {f = c.in_default.field-0} c.loop-done-test.true c.in_default.ensures }
 
 pub returns-in-Err : goal.returns-in-Err
 returns-in-Err g c = record {
   last = c.loop-done.self;
   turns = c.loop-done.invariant;
-  stops = subst (λ (n : ℕ). Stops g.B.Book.meaning g.S.Strategy.bag g.S.Strategy.putting g.S.Strategy.taking c.args.limit c.loop-done.done n c.loop-done.self c.put-back.new.self)
+  stops = subst (λ (n : ℕ). Stops g.B.Book.meaning g.S.Strategy.bag g.S.Strategy.putting g.S.Strategy.taking c.args.limit c.loop-done.done n c.loop-done.self c.put_back.new.self)
       (ap (λ (r : Refusal). r.number) (sym c.refusal.ensures))
-      (refused c.in-Ok.slip c.in-Err.slip c.in-Err.fault c.put-back.result c.loop-done-test.true c.in-Ok.ensures c.in-Err.ensures c.put-back.ensures);
+      (refused c.in-Ok.slip c.in-Err.slip c.in-Err.fault c.put_back.result c.loop-done-test.true c.in-Ok.ensures c.in-Err.ensures c.put_back.ensures);
 }
 
 pub loop-done-preserved : goal.loop-done-preserved
-loop-done-preserved g c = turn c.in-Ok.slip c.loop-done.invariant c.in-Ok.ensures c.in-default-rewrite.ensures
+loop-done-preserved g c = turn c.in-Ok.slip c.loop-done.invariant c.in-Ok.ensures c.in_default-rewrite.ensures
 
 pub returns : goal.returns
 returns g c =

@@ -1,4 +1,4 @@
-use Rattle.std.proofs.Common.{◌≡◌, List, [], ◌++◌, map, refl, ap, ◌∙◌, subst}
+use Rattle.std.proofs.Common.{List, ◌++◌, map, refl, ap, ◌∙◌, subst}
 use Rattle.std.specs.List.Sorted.{IsPermutation}
 use Rattle.std.proofs.lemmas.List.{append-nil}
 use Rattle.strategies.specs.declared.pair.Pair.{Pair as Waiting}
@@ -13,14 +13,14 @@ returns g c = record {
   net = refl;
   stamp = refl;
   count = refl;
-  unmarked = c.no-marks.ensures.none;
+  unmarked = c.no_marks.ensures.none;
   cleared = c.clear.new.self;
   clears = c.clear.ensures.own;
   empty = c.clear.ensures.bags;
-  puts = λ h. scan_all g.B.Book.meaning g.met.B.Book.lawful g.S.Strategy.bag g.S.Strategy.putting c.args.self.net c.clear.new.self c.put-active.new.strategy c.put-active.ensures h c.clear.ensures.bags;
+  puts = λ h. scan_all g.B.Book.meaning g.met.B.Book.lawful g.S.Strategy.bag g.S.Strategy.putting c.args.self.net c.clear.new.self c.put_active.new.strategy c.put_active.ensures h c.clear.ensures.bags;
   running = λ h.
-      let t = scan_all g.B.Book.meaning g.met.B.Book.lawful g.S.Strategy.bag g.S.Strategy.putting c.args.self.net c.clear.new.self c.put-active.new.strategy c.put-active.ensures h c.clear.ensures.bags in
+      let t = scan_all g.B.Book.meaning g.met.B.Book.lawful g.S.Strategy.bag g.S.Strategy.putting c.args.self.net c.clear.new.self c.put_active.new.strategy c.put_active.ensures h c.clear.ensures.bags in
       opens g.B.Book.meaning g.met.B.Book.lawful g.S.Strategy.bag _ h t.0 t.1
-      (subst (λ (ps : List Waiting). IsPermutation ps (g.S.Strategy.bag c.put-active.new.strategy)) (ap (λ (ps : List Waiting). map waiting t.0 ++ ps) c.clear.ensures.bags ∙ append-nil (map waiting t.0)) (puts_bag g.S.Strategy.bag g.S.Strategy.putting t.2))
-      c.no-marks.ensures.none;
+      (subst (λ (ps : List Waiting). IsPermutation ps (g.S.Strategy.bag c.put_active.new.strategy)) (ap (λ (ps : List Waiting). map waiting t.0 ++ ps) c.clear.ensures.bags ∙ append-nil (map waiting t.0)) (puts_bag g.S.Strategy.bag g.S.Strategy.putting t.2))
+      c.no_marks.ensures.none;
 }
