@@ -9,15 +9,15 @@ use Rattle.books.specs.declared.table.RuleTable.{RuleTable}
 use Rattle.books.specs.Shelves.{Looked}
 
 -- what a slice's `get` answers is what stands there
-pub item-nth : {X : Type 0} (xs : List X) (i : ℕ) (r : Option (Bor X)) → IsGetResult xs i i r → option_map (λ x. x.now) r ≡ slice_get xs i
-item-nth xs i None h = sym (slice_get_past xs i h.3)
-item-nth xs i (Some x) h = sym (slice_get_read xs (length xs) i x.now refl h.3.0 h.1)
+pub item_got : {X : Type 0} (xs : List X) (i : ℕ) (r : Option (Bor X)) → IsGetResult xs i i r → option_map (λ x. x.now) r ≡ slice_get xs i
+item_got xs i None h = sym (slice_get_past xs i h.3)
+item_got xs i (Some x) h = sym (slice_get_read xs (length xs) i x.now refl h.3.0 h.1)
 
 pub got_none : {X : Type 0} (xs : List X) (i : ℕ) (r : Option (Bor X)) → IsGetResult xs i i r → r ≡ None → slice_get xs i ≡ None
-got_none xs i r h e = sym (item-nth xs i r h) ∙ ap (option_map (λ x. x.now)) e
+got_none xs i r h e = sym (item_got xs i r h) ∙ ap (option_map (λ x. x.now)) e
 
 pub got_some : {X : Type 0} (xs : List X) (i : ℕ) (r : Option (Bor X)) (x : Bor X) → IsGetResult xs i i r → r ≡ Some x → slice_get xs i ≡ Some x.now
-got_some xs i r x h e = sym (item-nth xs i r h) ∙ ap (option_map (λ x. x.now)) e
+got_some xs i r x h e = sym (item_got xs i r h) ∙ ap (option_map (λ x. x.now)) e
 
 -- the first n entries, each mapped
 pub mapped_front : {X Y : Type 0} (f : X → Y) (xs : List X) (n i : ℕ) → i < n → slice_get (map f (take n xs)) i ≡ option_map f (slice_get xs i)

@@ -10,7 +10,7 @@ use nets::fault::PairFault;
 use nets::table::Table;
 
 /// Rewrites the active pair of the cells in two places, L first, by the book's rule, and answers the pairs that became active by it, by rising lower place.
-/// Refused as `Table::rewrite` is.
+/// Refused as `Table::rewrite_pair` is.
 pub fn rewrite_pair<B: Book>(
     book: &B,
     table: &mut Table,

@@ -12,14 +12,14 @@ abbrev pub Waited : List Pair → Pair → Type 0
 Waited bag pair = Has bag pair
 
 -- a stack and a ring with equal bags: each takes some waiting pair, and these are two pairs
-pub record OpenChoice (from-stack from-ring : Pair) : Type 0 where
+pub record OpenChoice (from_stack from_ring : Pair) : Type 0 where
   pub stack : Stack
   pub stack_after : Stack
   pub ring : Ring
   pub ring_after : Ring
   pub equal : SameBag (stack_pairs stack) (ring_pairs ring)
-  pub stack_takes : StackTaken stack (Ok from-stack) stack_after
-  pub stack_some : SomeWaiting (stack_pairs stack) from-stack (stack_pairs stack_after)
-  pub ring_takes : RingTaken ring (Ok from-ring) ring_after
-  pub ring_some : SomeWaiting (ring_pairs ring) from-ring (ring_pairs ring_after)
-  pub differ : from-stack ≢ from-ring
+  pub stack_takes : StackTaken stack (Ok from_stack) stack_after
+  pub stack_some : SomeWaiting (stack_pairs stack) from_stack (stack_pairs stack_after)
+  pub ring_takes : RingTaken ring (Ok from_ring) ring_after
+  pub ring_some : SomeWaiting (ring_pairs ring) from_ring (ring_pairs ring_after)
+  pub differ : from_stack ≢ from_ring

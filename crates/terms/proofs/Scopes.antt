@@ -59,6 +59,9 @@ surrounding_inside text xs (e ∷ es) n h k l =
       | inr d ↦ surrounding_inside text xs es (n - 1) h.3 k (omega arith)
     ]
 
+pub surrounding_places : (text xs : List ℕ) (es : Around) (n : ℕ) → Surrounding text xs n es → (k : ℕ) → k < n → get_or xs k 0 ≤ length text
+surrounding_places text xs es n h k l = omega (arith, surrounding_inside text xs es n h k l)
+
 -- so is the place of the abstraction that a name means
 pub meant_inside : (text xs w : List ℕ) (es : Around) (n p : ℕ) → Surrounding text xs n es → meaning w es ≡ variable p → p < length text
 meant_inside text xs w [] n p h e = let z : ◌≡◌ {A = ℕ} 0 1 = cc in absurd (omega arith)

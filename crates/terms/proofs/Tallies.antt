@@ -1,12 +1,12 @@
 -- What one use more makes of a tally.
-use Rattle.std.proofs.Common.{◌≡◌, ℕ, ◌+◌, ◌<◌, Bool, true, false, ◌≢◌, List, [], ◌∷◌, ◌++◌, length, get_or, set, Decides, Option, sym, refl, ◌∙◌, subst, inl, inr, arith, get_or-set_other, get_or-set_same}
+use Rattle.std.proofs.Common.{◌≡◌, ℕ, ◌+◌, ◌<◌, ◌≤◌, Bool, true, false, ◌≢◌, List, [], ◌∷◌, ◌++◌, length, get_or, set, Decides, Option, sym, refl, ◌∙◌, subst, inl, inr, arith, get_or-set_other, get_or-set_same}
 use Rattle.std.specs.List.{ContainsAt as Has}
 use Rattle.std.proofs.ByRecursion.{has_append_left, has_push}
 use Rattle.std.proofs.lemmas.Bool.{cases_eq, both_ways}
 use Rattle.refusals.specs.declared.faults.TextFault.{TextFault}
 use Rattle.terms.specs.Letters.{WordAt, capital}
 use Rattle.terms.specs.Bindings.{Meaning, variable, listed, nothing}
-use Rattle.terms.specs.Looking.{Standing}
+use Rattle.terms.specs.Looking.{Places, Standing}
 use Rattle.terms.specs.Tallying.{Uses, FaultOf, Before, Sums, blamed}
 use Rattle.terms.proofs.Wrongs.{old_or_new, fault_same, fault_again, fault_nothing, things_push}
 
@@ -121,3 +121,7 @@ module _ (text : List ℕ) (us : Uses) (used : List Bool) (items : List ℕ) (n 
       let same : t.0 ≡ w = some.2 t.0 t.2 in
       sums_item w here room (blamed f (TextFault.UsedTwice q))
       (fault_again us (listed w) q before f (listed_nothing w) (get_or items some.0 0) (subst (λ x. Has us (listed x, get_or items some.0 0)) same t.1) h.wrong)
+
+-- the listed places are places of the text
+pub sums_places : (text : List ℕ) (us : Uses) (used : List Bool) (items : List ℕ) (n : ℕ) (f : Option TextFault) → Sums text us used items n f → n ≤ length items → Places text items n
+sums_places text us used items n f h room = (room, λ k l. let t = h.stand k l in omega (arith, t.2.inside))

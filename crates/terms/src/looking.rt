@@ -6,6 +6,22 @@ ghost use Rattle.terms.specs.Scopes.{Surrounding, Found};
 
 use crate::letters::word_at;
 
+/// The place of the name of the innermost of some abstractions that has a name; `around` has the places of their names, the outermost first.
+pub(crate) fn find_binder(text: &[u8], around: &[u16], count: u16, name: &[u8]) -> Option<u16>
+    requires inside { Places text.now around.now count }
+    ensures { (es : Around) → Surrounding text.now around.now count es → Meant (meaning name.now es) result }
+{
+    let mut at = count;
+    while at > 0 {
+        at -= 1;
+        let place = around[at as usize];
+        if word_at(text, place as usize, 97) == name {
+            return Some(place);
+        }
+    }
+    None
+}
+
 /// The innermost of some abstractions that has a name, counted from the outermost on; `around` has the places of their names in the text, the outermost first.
 pub fn find_scope(text: &[u8], around: &[u16], name: &[u8]) -> Option<usize>
     ensures within { IfSome result (λ i. i < length around.now) }
@@ -20,15 +36,6 @@ pub fn find_scope(text: &[u8], around: &[u16], name: &[u8]) -> Option<usize>
         }
     }
     None
-}
-
-/// The place of the name of the innermost of some abstractions that has a name; `around` has the places of their names, the outermost first.
-pub(crate) fn find_binder(text: &[u8], around: &[u16], count: u16, name: &[u8]) -> Option<u16>
-    requires inside { Places text.now around.now count }
-    ensures { (es : Around) → Surrounding text.now around.now count es → Meant (meaning name.now es) result }
-{
-    let i = find_scope(text, &around[0..count as usize], name)?;
-    Some(around[i])
 }
 
 /// Whether an item is one of those that stand at some places of the text.

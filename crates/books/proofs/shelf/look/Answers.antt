@@ -1,4 +1,4 @@
-use Rattle.books.proofs.Lookups.{item-nth, got_none, got_some, no_row, no_column, at_position}
+use Rattle.books.proofs.Lookups.{item_got, got_none, got_some, no_row, no_column, at_position}
 use Rattle.books.proofs.shelf.look.Goals as goal
 
 pub returns-in_err-row : goal.returns-in_err-row
@@ -20,5 +20,5 @@ returns g c =
     let position = c.in_ok-position.position in
     let p = got_some c.args.positions.now c.args.a c.get.result row c.get.ensures.lookup c.in_ok-row.was in
     let q = got_some row.now c.args.b c.get-2.result position c.get-2.ensures.lookup c.in_ok-position.was in
-    let r = item-nth c.args.rules.now position.now c.get-3.result c.get-3.ensures.lookup in
+    let r = item_got c.args.rules.now position.now c.get-3.result c.get-3.ensures.lookup in
     at_position c.args.rules.now c.args.positions.now c.args.a c.args.b c.get-3.result row.now position.now p q r

@@ -1,7 +1,7 @@
 use Rattle.std.proofs.Common.{refl, ◌∙◌, arith}
 use Rattle.std.proofs.lemmas.Slice.Eq.{slice_eq-Decides}
 use Rattle.std.proofs.lemmas.Bool.{both_ways}
-use Rattle.terms.proofs.Lookups.{met, passed, meant_none}
+use Rattle.terms.proofs.Scoping.{met, passed, meant_none}
 use Rattle.terms.proofs.looking.find_scope.Goals as goal
 use Rattle.std.proofs.lemmas.Bool.Decides.{Decides-eqb}
 
