@@ -1,8 +1,8 @@
 -- Bytes that spell a word, and where they stop to.
 use Rattle.std.proofs.Common.{◌≡◌, ℕ, zero, suc, ◌+◌, ◌<◌, ◌≤◌, true, false, ◌⊎◌, List, [], ◌∷◌, ◌++◌, length, get_or, take, drop, sym, refl, ap, ◌∙◌, subst, inl, inr, zero-add, arith}
-use Rattle.std.proofs.lemmas.List.{length-take, length-append, get_or-take, get_or_append_left, append-nil, take_all, get_or-drop}
-use Rattle.std.proofs.lemmas.Bool.{both_ways, cases_order, and_from, le-leb}
-use Rattle.terms.specs.Letters.{letter, Word, Outside, Run, WordAt}
+use Rattle.std.proofs.lemmas.List.{length-take, length-drop, length-append, get_or-take, get_or_append_left, append-nil, take_all, get_or-drop}
+use Rattle.std.proofs.lemmas.Bool.{both_ways, cases_order, cases_lt, and_from, le-leb}
+use Rattle.terms.specs.Letters.{letter, Word, Outside, Run, WordAt, ReadAt}
 
 -- the first letter is a letter
 pub first_letter : (first : ℕ) → letter first first ≡ true
@@ -72,6 +72,33 @@ outside_word first w n r h = record {
 pub whole_word : (first : ℕ) (w : List ℕ) (n : ℕ) → Run w 0 first n → 1 ≤ n → length w ≤ n → Word first w
 whole_word first w n r some all =
     subst (Word first) (take_all n w all) (front_word first w n some r.few (omega (arith, r.inside)) (λ k l. rw zero-add at (r.letters k l)))
+
+-- there is one run of letters at a place
+pub one_run : (text : List ℕ) (p first n m : ℕ) → Run text p first n → Run text p first m → n ≡ m
+one_run text p first n m r q =
+    elim (cases_order n m) [
+      | inl e ↦ e
+      | inr (inl l) ↦ absurd (both_ways _ (r.ends (omega (arith, q.few)) (omega (arith, q.inside))) (q.letters n l))
+      | inr (inr l) ↦ absurd (both_ways _ (q.ends (omega (arith, r.few)) (omega (arith, r.inside))) (r.letters m l))
+    ]
+
+-- so one word is read there
+pub one_reading : (text : List ℕ) (p first : ℕ) (w v : List ℕ) → ReadAt text p first w → ReadAt text p first v → w ≡ v
+one_reading text p first w v r q =
+    elim (cases_lt (length text) p) [
+      | inl l ↦ r.past l ∙ sym (q.past l)
+      | inr h ↦ r.here h ∙ ap (λ (n : ℕ). take n (drop p text)) (one_run text p first (length w) (length v) (r.run h) (q.run h)) ∙ sym (q.here h)
+    ]
+
+-- the letters that a run has are what is read there
+pub run_read : (text : List ℕ) (p first n : ℕ) → Run text p first n → ReadAt text p first (take n (drop p text))
+run_read text p first n r =
+    let long : length (take n (drop p text)) ≡ n = simp (length-take, length-drop) (let i = r.inside in omega arith) in
+    record {
+      past = λ l. absurd (omega (arith, r.inside));
+      run = λ h. subst (Run text p first) (sym long) r;
+      here = λ h. ap (λ (k : ℕ). take k (drop p text)) (sym long);
+    }
 
 -- the run of letters at a word is that word
 pub run_word : (text : List ℕ) (p first n : ℕ) (w : List ℕ) → Run text p first n → WordAt text p first w → n ≡ length w

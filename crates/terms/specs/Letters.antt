@@ -1,5 +1,5 @@
 -- Letters, names and items as bytes. Assumes nothing.
-use Rattle.std.specs.Prelude.{◌≡◌, ℕ, ◌+◌, ◌<◌, ◌≤◌, Bool, true, false, ◌&&◌, List, ◌++◌, length, take, drop, nat_le, slice_index}
+use Rattle.std.specs.Prelude.{◌≡◌, ℕ, ◌+◌, ◌<◌, ◌≤◌, Bool, true, false, ◌&&◌, List, [], ◌++◌, length, take, drop, nat_le, slice_index}
 
 -- one of the 26 letters from the first one on
 abbrev pub letter : ℕ → ℕ → Bool
@@ -39,3 +39,9 @@ pub record WordAt (text : List ℕ) (p first : ℕ) (w : List ℕ) : Type 0 wher
   pub inside : p + length w ≤ length text
   pub here : take (length w) (drop p text) ≡ w
   pub ends : p + length w < length text → letter first (slice_index text (p + length w)) ≡ false
+
+-- w is what stands at place p of letters from the first one on, of more than eight the first eight; nothing past the end of the text
+pub record ReadAt (text : List ℕ) (p first : ℕ) (w : List ℕ) : Type 0 where
+  pub past : length text < p → w ≡ []
+  pub run : p ≤ length text → Run text p first (length w)
+  pub here : p ≤ length text → w ≡ take (length w) (drop p text)

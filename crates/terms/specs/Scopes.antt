@@ -1,6 +1,6 @@
 -- The abstractions around a place of a text, and which of them a name means. Assumes nothing.
-use Rattle.std.specs.Prelude.{◌≡◌, ℕ, ◌-◌, ◌<◌, ◌≤◌, List, [], ◌∷◌, Some, None, Option, slice_index}
-use Rattle.terms.specs.Letters.{WordAt, small}
+use Rattle.std.specs.Prelude.{◌≡◌, ℕ, ◌-◌, ◌<◌, ◌≤◌, List, [], ◌∷◌, length, Some, None, Option, slice_index}
+use Rattle.terms.specs.Letters.{WordAt, ReadAt, small}
 use Rattle.terms.specs.Bindings.{variable, nothing, Around, meaning}
 
 -- the first n of the places are those of the names of the abstractions es, the outermost first
@@ -17,3 +17,8 @@ renumbered bs n (e ∷ es) = (e.0, slice_index bs (n - 1)) ∷ renumbered bs (n 
 abbrev pub Found : List ℕ → ℕ → Around → Option ℕ → Type 0
 Found w n es None = (bs : List ℕ) → meaning w (renumbered bs n es) ≡ nothing
 Found w n es (Some i) = (i < n) × ((bs : List ℕ) → meaning w (renumbered bs n es) ≡ variable (slice_index bs i))
+
+-- the last of some places at which the name stands, by its number; none where it stands at none
+abbrev pub Latest : List ℕ → List ℕ → List ℕ → Option ℕ → Type 0
+Latest text xs w None = (j : ℕ) → j < length xs → ReadAt text (slice_index xs j) small w → ⊥
+Latest text xs w (Some i) = (i < length xs) × ReadAt text (slice_index xs i) small w × ((j : ℕ) → i < j → j < length xs → ReadAt text (slice_index xs j) small w → ⊥)

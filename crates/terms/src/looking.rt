@@ -2,7 +2,7 @@
 ghost use Rattle.std.specs.Prelude.{◌<◌, ◌≤◌, length, IfSome};
 ghost use Rattle.terms.specs.Bindings.{Around, meaning};
 ghost use Rattle.terms.specs.Looking.{Meant, Places, Standing};
-ghost use Rattle.terms.specs.Scopes.{Surrounding, Found};
+ghost use Rattle.terms.specs.Scopes.{Surrounding, Found, Latest};
 
 use crate::letters::word_at;
 
@@ -25,6 +25,7 @@ pub(crate) fn find_binder(text: &[u8], around: &[u16], count: u16, name: &[u8]) 
 /// The innermost of some abstractions that has a name, counted from the outermost on; `around` has the places of their names in the text, the outermost first.
 pub fn find_scope(text: &[u8], around: &[u16], name: &[u8]) -> Option<usize>
     ensures within { IfSome result (λ i. i < length around.now) }
+    ensures latest { Latest text.now around.now name.now result }
     ensures found { (es : Around) → Surrounding text.now around.now (length around.now) es → Found name.now (length around.now) es result }
 {
     let mut at = around.len();

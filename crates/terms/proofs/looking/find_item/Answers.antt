@@ -7,9 +7,9 @@ use Rattle.std.proofs.lemmas.Bool.Decides.{Decides-eqb}
 
 pub returns-then-eq : goal.returns-then-eq
 returns-then-eq c =
-    (c.loop-i.i, c.loop-i-test.true, λ v h. sym (c.word_at.ensures v h) ∙ (slice_eq-Decides Decides-eqb _ _ _ c.eq.ensures).0 c.if-eq.true)
+    (c.loop-i.i, c.loop-i-test.true, λ v h. sym (c.word_at.ensures.word v h) ∙ (slice_eq-Decides Decides-eqb _ _ _ c.eq.ensures).0 c.if-eq.true)
 
 pub loop-i-preserved : goal.loop-i-preserved
 loop-i-preserved c =
     below_more (λ k. (v : List ℕ) → WordAt c.args.text.now (get_or c.args.places.now k 0) capital v → v ≡ c.args.item.now → ⊥) c.loop-i.i c.loop-i.invariant
-    (λ v h e. both_ways _ c.if-eq.false ((slice_eq-Decides Decides-eqb _ _ _ c.eq.ensures).1 (c.word_at.ensures v h ∙ e)))
+    (λ v h e. both_ways _ c.if-eq.false ((slice_eq-Decides Decides-eqb _ _ _ c.eq.ensures).1 (c.word_at.ensures.word v h ∙ e)))

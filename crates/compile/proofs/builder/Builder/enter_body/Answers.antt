@@ -23,7 +23,7 @@ returns c =
     let at = c.args.at in
     let (T, z, (es, n, t, zs, is), reads, w) = c.requires in
     let v = subst (BuiltTo text T at b) is w in
-    let name : c.word_at-name.result.now ≡ n = c.word_at-name.ensures n (name_at text at es n t zs v.stands) in
+    let name : c.word_at-name.result.now ≡ n = c.word_at-name.ensures.word n (name_at text at es n t zs v.stands) in
     record {
       goes = (
         T,

@@ -18,7 +18,7 @@ unreachable-requires c =
     let (T, z, (es, n, zs, is), reads, w) = c.requires in
     let v = subst (BuiltTo text T at b) is w in
     let room : b.inner ≤ length b.around = omega (arith, v.low, v.all_cells, few_cells text T reads, b.wide) in
-    let name : c.word_at-name.result.now ≡ n = c.word_at-name.ensures n (bound_at text at es n zs v.stands) in
+    let name : c.word_at-name.result.now ≡ n = c.word_at-name.ensures.word n (bound_at text at es n zs v.stands) in
     let found = slice_found text b.around c.word_at-name.result.now es b.inner None room v.held.0 c.in_default.ensures.found in
     name_bound text T reads at _ b.cells _ _ (scope b) es n zs v (subst (λ (m : List ℕ). Found m b.inner es None) name found)
 
@@ -30,7 +30,7 @@ link-requires c =
     let (T, z, (es, n, zs, is), reads, w) = c.requires in
     let v = subst (BuiltTo text T at b) is w in
     let room : b.inner ≤ length b.around = omega (arith, v.low, v.all_cells, few_cells text T reads, b.wide) in
-    let name : c.word_at-name.result.now ≡ n = c.word_at-name.ensures n (bound_at text at es n zs v.stands) in
+    let name : c.word_at-name.result.now ≡ n = c.word_at-name.ensures.word n (bound_at text at es n zs v.stands) in
     let found = slice_found text b.around c.word_at-name.result.now es b.inner (Some c.in-Some.i) room v.held.0 c.in-Some.ensures.found in
     let here = subst (λ (m : List ℕ). Found m b.inner es (Some c.in-Some.i)) name found in
     record {
@@ -47,7 +47,7 @@ returns c =
     let v = subst (BuiltTo text T at b) is w in
     let room : b.inner ≤ length b.around = omega (arith, v.low, v.all_cells, few_cells text T reads, b.wide) in
     let word = bound_at text at es n zs v.stands in
-    let name : c.word_at-name.result.now ≡ n = c.word_at-name.ensures n word in
+    let name : c.word_at-name.result.now ≡ n = c.word_at-name.ensures.word n word in
     let found = slice_found text b.around c.word_at-name.result.now es b.inner (Some c.in-Some.i) room v.held.0 c.in-Some.ensures.found in
     let here = subst (λ (m : List ℕ). Found m b.inner es (Some c.in-Some.i)) name found in
     let size : length c.word_at-name.result.now ≡ length n = ap length name in

@@ -30,7 +30,7 @@ returns-in-Some c = record {
       let at = c.args.at in
       let v = subst (λ z. Walks c.args.text.now T c.args.at c.args.self.now z) k.3 w in
       let word = bound_at c.args.text.now c.args.at k.0 k.1 k.2 v.stands in
-      let is : c.word_at-name.result.now ≡ k.1 = c.word_at-name.ensures k.1 word in
+      let is : c.word_at-name.result.now ≡ k.1 = c.word_at-name.ensures.word k.1 word in
       let means = ap (λ (n : List ℕ). meaning n k.0) (sym is) ∙ c.in-Some.ensures k.0 v.held.0 in (
         between k.2,
         subst (λ (n : List ℕ). Walk c.args.text.now T (at + length n) s.around s.inner s.saved s.depth s.binders s.cells c.note_variable.new.self (between k.2)) (sym is)
@@ -42,7 +42,7 @@ returns-in-Some c = record {
       let v = subst (λ z. Walks c.args.text.now c.requires.comes.0 c.args.at c.args.self.now z) k.3 c.requires.comes.3 in
       let n = bound_at c.args.text.now c.args.at k.0 k.1 k.2 v.stands in
       let m = n.word.some in
-      let l : length c.word_at-name.result.now ≡ length k.1 = ap length (c.word_at-name.ensures k.1 n) in
+      let l : length c.word_at-name.result.now ≡ length k.1 = ap length (c.word_at-name.ensures.word k.1 n) in
       omega arith;
 }
 
@@ -53,7 +53,7 @@ returns c = record {
       let at = c.args.at in
       let v = subst (λ z. Walks c.args.text.now T c.args.at c.args.self.now z) k.3 w in
       let word = bound_at c.args.text.now c.args.at k.0 k.1 k.2 v.stands in
-      let is : c.word_at-name.result.now ≡ k.1 = c.word_at-name.ensures k.1 word in
+      let is : c.word_at-name.result.now ≡ k.1 = c.word_at-name.ensures.word k.1 word in
       let means = ap (λ (n : List ℕ). meaning n k.0) (sym is) ∙ c.in_default.ensures k.0 v.held.0 in (
         between k.2,
         subst (λ (n : List ℕ). Walk c.args.text.now T (at + length n) s.around s.inner s.saved s.depth s.binders s.cells c.note_unbound.new.self (between k.2)) (sym is)
@@ -65,6 +65,6 @@ returns c = record {
       let v = subst (λ z. Walks c.args.text.now c.requires.comes.0 c.args.at c.args.self.now z) k.3 c.requires.comes.3 in
       let n = bound_at c.args.text.now c.args.at k.0 k.1 k.2 v.stands in
       let m = n.word.some in
-      let l : length c.word_at-name.result.now ≡ length k.1 = ap length (c.word_at-name.ensures k.1 n) in
+      let l : length c.word_at-name.result.now ≡ length k.1 = ap length (c.word_at-name.ensures.word k.1 n) in
       omega arith;
 }
