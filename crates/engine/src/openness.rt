@@ -2,8 +2,6 @@
 ghost use Rattle.engine.specs.Openness.{OpenPlaces};
 
 /// Where a new cell stands is open: one pair has two legal choices of places, with different results.
-pub fn places_are_open() -> u8
+pub fn places_are_open()
     ensures { OpenPlaces }
-{
-    0
-}
+{}

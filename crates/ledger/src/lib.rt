@@ -4,8 +4,6 @@
 ghost use Rattle.ledger.specs.Ledger.{AtMost512};
 
 // At most 512 pairs wait or are out.
-pub fn at_most_512() -> u8
+pub fn at_most_512()
     ensures { AtMost512 }
-{
-    0
-}
+{}
