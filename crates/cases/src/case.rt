@@ -12,23 +12,20 @@ use std::alloc::AllocError;
 
 /// Runs the case that a line has, and prints its name and what came of it.
 pub fn run(rt: &HostRuntime, line: &str) -> anyhow::Result<()> {
-    let Some((name, rest)) = line.split_once(' ') else {
-        return Ok(());
-    };
-    let Some((command, rest)) = rest.split_once(' ') else {
-        return Ok(());
-    };
-    let Some((number, text)) = rest.split_once(' ') else {
+    let mut words = line.splitn(4, ' ');
+    let (Some(name), Some(command), Some(number), Some(text)) = (
+        words.next(),
+        words.next(),
+        words.next(),
+        words.next(),
+    ) else {
         return Ok(());
     };
     print!(rt; "{name} ")?;
-    if command == "room" {
-        return run_room(rt, number.parse::<usize>()?, text);
-    }
-    if number == "1" {
-        run_in(rt, &Counts, command, text)
-    } else {
-        run_in(rt, &Combinators, command, text)
+    match (command, number) {
+        ("room", _) => run_room(rt, number.parse::<usize>()?, text),
+        (_, "1") => run_in(rt, &Counts, command, text),
+        _ => run_in(rt, &Combinators, command, text),
     }
 }
 
@@ -102,19 +99,11 @@ fn run_room(rt: &HostRuntime, size: usize, text: &str) -> anyhow::Result<()> {
 }
 
 // How many bytes still have the value that they had at first.
-fn kept(out: &Vec<u8>) -> usize {
-    let mut n = 0usize;
-    for b in out.iter() {
-        if *b == 170 {
-            n = n.saturating_add(1);
-        }
-    }
-    n
+fn kept(out: &[u8]) -> usize {
+    out.iter().filter(|b| **b == 170).count()
 }
 
 fn print_fault(rt: &HostRuntime, fault: ReadFault) -> anyhow::Result<()> {
-    match fault.refusal() {
-        Some(refusal) => Ok(println!(rt; "{refusal}")?),
-        None => Err(AllocError.into()),
-    }
+    let refusal = fault.refusal().ok_or(AllocError)?;
+    Ok(println!(rt; "{refusal}")?)
 }

@@ -4,15 +4,14 @@ use std::alloc::{AllocError, Global};
 /// The bytes that a text names, two hexadecimal digits each; any other character is passed over.
 pub fn bytes(heap: Global, text: &str) -> Result<Vec<u8>, AllocError> {
     let mut out = Vec::new(heap);
-    let mut high: Option<u8> = None;
-    for b in text.bytes() {
-        high = match (high, digit(b)) {
-            (Some(h), Some(d)) => {
-                out.push(h.wrapping_mul(16).wrapping_add(d))?;
+    let mut high = None;
+    for digit in text.bytes().filter_map(digit) {
+        high = match high {
+            Some(high) => {
+                out.push(high << 4 | digit)?;
                 None
             }
-            (None, Some(d)) => Some(d),
-            (h, None) => h,
+            None => Some(digit),
         };
     }
     Ok(out)

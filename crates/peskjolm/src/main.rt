@@ -1,6 +1,7 @@
 // peskjolm: a workbench for net files.
 #![tactic(auto)]
 
+mod notation;
 mod show;
 
 use anyhow::anyhow;
@@ -25,13 +26,13 @@ fn run(rt: &HostRuntime) -> anyhow::Result<()> {
 }
 
 fn subcommand(rt: &HostRuntime, word: &str) -> anyhow::Result<()> {
-    if word == "show" {
-        let mut bytes = Vec::new(rt.alloc());
-        rt.stdin().read_to_end(&mut bytes)?;
-        return Ok(show::show(rt, &bytes)?);
+    match word {
+        "show" => {
+            let mut bytes = Vec::new(rt.alloc());
+            rt.stdin().read_to_end(&mut bytes)?;
+            Ok(show::show(rt, &bytes)?)
+        }
+        "help" => Ok(rt.print(HELP)?),
+        _ => Err(anyhow!("no such subcommand: see `peskjolm help`")),
     }
-    if word == "help" {
-        return Ok(rt.print(HELP)?);
-    }
-    Err(anyhow!("no such subcommand: see `peskjolm help`"))
 }
