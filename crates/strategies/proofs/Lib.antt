@@ -1,4 +1,4 @@
-pub mod Shuffles
 pub mod Slots
 pub mod Parts
 pub mod Choosing
+pub mod Ends

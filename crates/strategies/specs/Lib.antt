@@ -1,3 +1,4 @@
+pub mod Behaviour
 pub mod Bags
 pub mod Orders
 pub mod Splits

@@ -1,20 +1,20 @@
 -- In which order the pairs of a stack and of a ring wait, and what each call does to that order. Assumes nothing.
-use Rattle.std.specs.Prelude.{◌≡◌, ℕ, ◌+◌, ◌%◌, List, [], ◌∷◌, ◌++◌, map, reverse, Ok, Err, vec_items, Result, slice_index}
+use Rattle.std.specs.Prelude.{◌≡◌, ℕ, ◌+◌, ◌%◌, List, [], ◌∷◌, ◌++◌, map, reverse, Ok, Err, vec_items, Result, slice_index_or}
 use Rattle.std.specs.List.{range_with_len}
 use Rattle.refusals.specs.declared.faults.StrategyFault.{StrategyFault}
 use Rattle.strategies.specs.declared.pair.Pair.{Pair}
 use Rattle.strategies.specs.declared.arrivals.Arrivals.{Arrivals}
-use Rattle.strategies.specs.declared.stack.Stack.{Stack}
-use Rattle.strategies.specs.declared.ring.Ring.{Ring}
+use Rattle.strategies.specs.declared.line.Line.{Line}
+use Rattle.strategies.specs.declared.stack.Latest.{Latest}
+use Rattle.strategies.specs.declared.ring.Earliest.{Earliest}
 
--- the pair of a slot, its parts from three lists
-abbrev pub pair_at : List ℕ → List ℕ → List ℕ → ℕ → Pair
-pair_at lefts rights cells slot =
-    record { left = slice_index lefts slot; right = slice_index rights slot; cells = slice_index cells slot }
+-- what a slot holds before any pair came to it
+abbrev pub free : Pair
+free = record { left = 0; right = 0; cells = 0 }
 
 -- the pair that came k-th after the earliest: slots go round
 abbrev pub arrival : Arrivals → ℕ → Pair
-arrival a k = pair_at (vec_items a.lefts) (vec_items a.rights) (vec_items a.cells) ((a.first + k) % 512)
+arrival a k = slice_index_or (vec_items a.pairs) ((a.first + k) % 512) free
 
 -- the pairs in the order of their arrival
 abbrev pub earliest_first : Arrivals → List Pair
@@ -24,38 +24,52 @@ earliest_first a = map (arrival a) (range_with_len 0 a.count)
 abbrev pub latest_first : Arrivals → List Pair
 latest_first a = reverse (earliest_first a)
 
--- the pairs of a stack, latest first
-abbrev pub stack_pairs : Stack → List Pair
-stack_pairs s = latest_first s.waiting
-
--- the pairs of a ring, earliest first
-abbrev pub ring_pairs : Ring → List Pair
-ring_pairs s = earliest_first s.waiting
+-- the pairs of a line, in the order in which they are taken
+abbrev pub line_pairs : {E : Type 0} → (List Pair → List Pair) → Line E → List Pair
+line_pairs order s = order (earliest_first s.waiting)
 
 -- no pair is left
-abbrev pub StackCleared : Stack → Stack → Type 0
-StackCleared before after = stack_pairs after ≡ []
+abbrev pub LineCleared : {E : Type 0} → (List Pair → List Pair) → Line E → Line E → Type 0
+LineCleared order before after = line_pairs order after ≡ []
 
--- the pair is the latest; a refusal keeps the whole stack
-abbrev pub StackPut : Stack → Pair → Result (Unit {0}) StrategyFault → Stack → Type 0
-StackPut before pair (Ok _) after = stack_pairs after ≡ pair ∷ stack_pairs before
-StackPut before pair (Err _) after = after ≡ before
+-- the pair takes its place in the order; a refusal keeps the whole line
+abbrev pub LinePut : {E : Type 0} → (List Pair → List Pair) → (List Pair → Pair → List Pair) → Line E → Pair → Result (Unit {0}) StrategyFault → Line E → Type 0
+LinePut order arrived before pair (Ok _) after = line_pairs order after ≡ arrived (line_pairs order before) pair
+LinePut order arrived before pair (Err _) after = after ≡ before
+
+-- the next pair comes; a refusal keeps the whole line
+abbrev pub LineTaken : {E : Type 0} → (List Pair → List Pair) → Line E → Result Pair StrategyFault → Line E → Type 0
+LineTaken order before (Ok pair) after = line_pairs order before ≡ pair ∷ line_pairs order after
+LineTaken order before (Err _) after = after ≡ before
+
+-- the pairs of a stack, latest first
+abbrev pub stack_pairs : Line Latest → List Pair
+stack_pairs = line_pairs reverse
+
+-- no pair is left
+abbrev pub StackCleared : Line Latest → Line Latest → Type 0
+StackCleared = LineCleared reverse
+
+-- the pair is the first, before those that waited; a refusal keeps the whole stack
+abbrev pub StackPut : Line Latest → Pair → Result (Unit {0}) StrategyFault → Line Latest → Type 0
+StackPut = LinePut reverse (λ ps p. p ∷ ps)
 
 -- the latest pair comes; a refusal keeps the whole stack
-abbrev pub StackTaken : Stack → Result Pair StrategyFault → Stack → Type 0
-StackTaken before (Ok pair) after = stack_pairs before ≡ pair ∷ stack_pairs after
-StackTaken before (Err _) after = after ≡ before
+abbrev pub StackTaken : Line Latest → Result Pair StrategyFault → Line Latest → Type 0
+StackTaken = LineTaken reverse
+
+-- the pairs of a ring, earliest first
+abbrev pub ring_pairs : Line Earliest → List Pair
+ring_pairs = line_pairs (λ ps. ps)
 
 -- no pair is left
-abbrev pub RingCleared : Ring → Ring → Type 0
-RingCleared before after = ring_pairs after ≡ []
+abbrev pub RingCleared : Line Earliest → Line Earliest → Type 0
+RingCleared = LineCleared (λ ps. ps)
 
--- the pair is the latest; a refusal keeps the whole ring
-abbrev pub RingPut : Ring → Pair → Result (Unit {0}) StrategyFault → Ring → Type 0
-RingPut before pair (Ok _) after = ring_pairs after ≡ ring_pairs before ++ pair ∷ []
-RingPut before pair (Err _) after = after ≡ before
+-- the pair is the last, after those that waited; a refusal keeps the whole ring
+abbrev pub RingPut : Line Earliest → Pair → Result (Unit {0}) StrategyFault → Line Earliest → Type 0
+RingPut = LinePut (λ ps. ps) (λ ps p. ps ++ p ∷ [])
 
 -- the earliest pair comes; a refusal keeps the whole ring
-abbrev pub RingTaken : Ring → Result Pair StrategyFault → Ring → Type 0
-RingTaken before (Ok pair) after = ring_pairs before ≡ pair ∷ ring_pairs after
-RingTaken before (Err _) after = after ≡ before
+abbrev pub RingTaken : Line Earliest → Result Pair StrategyFault → Line Earliest → Type 0
+RingTaken = LineTaken (λ ps. ps)

@@ -1,7 +1,9 @@
-ghost use Rattle.std.specs.Prelude.{IfOk};
+ghost use Rattle.std.specs.Prelude.{◌≡◌, [], ◌∷◌, IfOk};
 ghost use Rattle.strategies.specs.Bags.{Taken};
 ghost use Rattle.strategies.specs.Choice.{Waited, OpenChoice};
+ghost use Rattle.strategies.specs.Orders.{line_pairs};
 
+use crate::line::{End, Line};
 use crate::pair::Pair;
 use crate::ring::Ring;
 use crate::stack::Stack;
@@ -10,6 +12,7 @@ use refusals::faults::StrategyFault;
 use std::alloc::{AllocError, Global};
 
 /// Takes a pair of whatever strategy: it is one of those that waited.
+#[tactic(auto, using(crate::proofs::Choosing::taken_waited))]
 pub fn take_any<S: Strategy>(strategy: &mut S) -> Result<Pair, StrategyFault>
     ensures bags { Taken (S.Strategy.bag strategy.old) result (S.Strategy.bag strategy.new) }
     ensures waited { IfOk result (Waited (S.Strategy.bag strategy.old)) }
@@ -31,11 +34,17 @@ pub fn differ(heap: Global) -> Result<(Pair, Pair), AllocError>
         right: 3,
         cells: 4,
     };
-    let mut stack = Stack::new(heap)?;
-    let mut ring = Ring::new(heap)?;
-    let _ = stack.put(early);
-    let _ = stack.put(late);
-    let _ = ring.put(early);
-    let _ = ring.put(late);
+    let mut stack: Stack = line_of_two(heap, early, late)?;
+    let mut ring: Ring = line_of_two(heap, early, late)?;
     Ok((stack.take().unwrap(), ring.take().unwrap()))
+}
+
+// A line in which two pairs wait.
+fn line_of_two<E: End>(heap: Global, early: Pair, late: Pair) -> Result<Line<E>, AllocError>
+    ensures { IfOk result (λ s. line_pairs E.order s ≡ E.order (early ∷ late ∷ [])) }
+{
+    let mut line = Line::new(heap)?;
+    line.put(early).unwrap();
+    line.put(late).unwrap();
+    Ok(line)
 }

@@ -3,8 +3,11 @@
 
 mod arrivals;
 pub mod choice;
+pub mod line;
 pub mod pair;
 pub mod ring;
 pub mod split;
 pub mod stack;
 pub mod strategy;
+#[cfg(test)]
+mod tests;

@@ -1,58 +1,28 @@
-ghost use Rattle.std.specs.Prelude.{◌≡◌, [], IfOk};
-ghost use Rattle.strategies.specs.Orders.{stack_pairs, StackCleared, StackPut, StackTaken};
+ghost use Rattle.std.specs.Prelude.{[], ◌∷◌, reverse};
+ghost use Rattle.std.proofs.lemmas.List.{reverse-append};
+ghost use Rattle.std.proofs.lemmas.List.Sorted.{IsPermutation-reverse};
 
 use crate::arrivals::Arrivals;
+use crate::line::{End, Line};
 use crate::pair::Pair;
-use crate::strategy::{ROOM, Strategy};
-use refusals::faults::StrategyFault;
-use std::alloc::{AllocError, Global};
+
+/// The end of the latest pair.
+#[derive(Clone, Copy)]
+pub struct Latest;
+
+impl End for Latest {
+    ghost order = { reverse };
+
+    ghost arrived = { λ ps p. p ∷ ps };
+
+    ghost same = { IsPermutation-reverse };
+
+    ghost one_more = { λ ps p. reverse-append ps (p ∷ []) };
+
+    fn pop(waiting: &mut Arrivals) -> Pair {
+        waiting.pop_latest()
+    }
+}
 
 /// The strategy that takes the latest pair.
-#[derive(Drop)]
-pub struct Stack {
-    waiting: Arrivals,
-}
-
-impl Stack {
-    /// A stack in which none waits; nothing is allocated after this.
-    pub fn new(heap: Global) -> Result<Stack, AllocError>
-        ensures { IfOk result (λ s. stack_pairs s ≡ []) }
-    {
-        Ok(Stack {
-            waiting: Arrivals::new(heap)?,
-        })
-    }
-}
-
-impl Strategy for Stack {
-    ghost bag = { stack_pairs };
-
-    ghost clearing = { StackCleared };
-
-    ghost putting = { StackPut };
-
-    ghost taking = { StackTaken };
-
-    fn clear(&mut self) {
-        self.waiting.clear();
-    }
-
-    fn put(&mut self, pair: Pair) -> Result<(), StrategyFault> {
-        if self.waiting.count() >= ROOM {
-            return Err(StrategyFault::Full);
-        }
-        self.waiting.push(pair);
-        Ok(())
-    }
-
-    fn take(&mut self) -> Result<Pair, StrategyFault> {
-        if self.waiting.count() == 0 {
-            return Err(StrategyFault::Empty);
-        }
-        Ok(self.waiting.pop_latest())
-    }
-
-    fn count(&self) -> u16 {
-        self.waiting.count()
-    }
-}
+pub type Stack = Line<Latest>;

@@ -1,10 +1,12 @@
+use Rattle.std.proofs.Common.{arith}
 use Rattle.std.proofs.lemmas.List.FromFn.{length-map-range_with_len}
 use Rattle.strategies.proofs.Slots.{earliest_out}
 use Rattle.strategies.proofs.arrivals.Arrivals.pop_earliest.Goals as goal
 
 pub returns : goal.returns
 returns c =
-    earliest_out _ _ _ c.args.self.now.first c.args.self.now.count c.slot.result c.at-pair.result
+    earliest_out _ c.args.self.now.first c.args.self.now.count c.slot.result c.index-pair.result.now
     (simp length-map-range_with_len at c.requires)
     c.slot.ensures
-    c.at-pair.ensures
+    (omega arith)
+    c.index-pair.ensures
