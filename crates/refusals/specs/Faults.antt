@@ -11,7 +11,7 @@ use Rattle.refusals.specs.declared.faults.StrategyFault.{StrategyFault}
 use Rattle.refusals.specs.declared.faults.RunFault.{RunFault}
 use Rattle.refusals.specs.declared.faults.ReadingFault.{ReadingFault}
 
-abbrev refused : ℕ → Layer → ℕ → Refusal
+abbrev pub refused : ℕ → Layer → ℕ → Refusal
 refused number layer place = record { number = number; layer = layer; place = place }
 
 -- a program's order

@@ -6,14 +6,14 @@ use crate::layer::Layer;
 use crate::refusal::Refusal;
 
 /// Why a program's order is refused.
-#[derive(Clone, Copy)]
+#[derive(Clone, Copy, Debug, PartialEq, Eq)]
 pub enum OrderFault {
     /// There is no strategy line.
     NoStrategy,
 }
 
 /// Why a text is refused as a term; places count bytes.
-#[derive(Clone, Copy)]
+#[derive(Clone, Copy, Debug, PartialEq, Eq)]
 pub enum TextFault {
     /// The text is over 8,192 bytes long.
     TooLong,
@@ -30,7 +30,7 @@ pub enum TextFault {
 }
 
 /// Why a file is refused, or not written; places count words.
-#[derive(Clone, Copy)]
+#[derive(Clone, Copy, Debug, PartialEq, Eq)]
 pub enum FileFault {
     /// The output buffer is under 16,648 bytes.
     NoRoom,
@@ -47,14 +47,14 @@ pub enum FileFault {
 }
 
 /// Why links are refused as a net's; places count words of the file.
-#[derive(Clone, Copy)]
+#[derive(Clone, Copy, Debug, PartialEq, Eq)]
 pub enum NetFault {
     /// A link to itself, beyond the arity of its target, or not named back.
     NotMutual(u32),
 }
 
 /// Why a strategy refuses.
-#[derive(Clone, Copy)]
+#[derive(Clone, Copy, Debug, PartialEq, Eq)]
 pub enum StrategyFault {
     /// No pair waits.
     Empty,
@@ -63,7 +63,7 @@ pub enum StrategyFault {
 }
 
 /// Why a run refuses.
-#[derive(Clone, Copy)]
+#[derive(Clone, Copy, Debug, PartialEq, Eq)]
 pub enum RunFault {
     /// The slip's stamp or pair is not out here.
     Foreign,
@@ -76,7 +76,7 @@ pub enum RunFault {
 }
 
 /// Why a net is not read back as a term.
-#[derive(Clone, Copy)]
+#[derive(Clone, Copy, Debug, PartialEq, Eq)]
 pub enum ReadingFault {
     /// The output buffer is under 8,192 bytes.
     NoRoom,
@@ -91,11 +91,7 @@ impl Fault for OrderFault {
 
     fn refusal(&self) -> Refusal {
         match self {
-            OrderFault::NoStrategy => Refusal {
-                number: 22,
-                layer: Layer::Order,
-                place: 0,
-            },
+            OrderFault::NoStrategy => Refusal::new(22, Layer::Order, 0),
         }
     }
 }
@@ -112,11 +108,7 @@ impl Fault for TextFault {
             TextFault::Unused(at) => (5, *at),
             TextFault::TooLarge => (6, 0),
         };
-        Refusal {
-            number,
-            layer: Layer::Text,
-            place,
-        }
+        Refusal::new(number, Layer::Text, place)
     }
 }
 
@@ -132,11 +124,7 @@ impl Fault for FileFault {
             FileFault::BadLink(word) => (11, *word),
             FileFault::Words(word) => (13, *word),
         };
-        Refusal {
-            number,
-            layer: Layer::File,
-            place,
-        }
+        Refusal::new(number, Layer::File, place)
     }
 }
 
@@ -145,11 +133,7 @@ impl Fault for NetFault {
 
     fn refusal(&self) -> Refusal {
         match self {
-            NetFault::NotMutual(word) => Refusal {
-                number: 12,
-                layer: Layer::Net,
-                place: *word,
-            },
+            NetFault::NotMutual(word) => Refusal::new(12, Layer::Net, *word),
         }
     }
 }
@@ -162,11 +146,7 @@ impl Fault for StrategyFault {
             StrategyFault::Empty => 14,
             StrategyFault::Full => 21,
         };
-        Refusal {
-            number,
-            layer: Layer::Strategy,
-            place: 0,
-        }
+        Refusal::new(number, Layer::Strategy, 0)
     }
 }
 
@@ -180,11 +160,7 @@ impl Fault for RunFault {
             RunFault::Spent => 17,
             RunFault::Busy => 18,
         };
-        Refusal {
-            number,
-            layer: Layer::Run,
-            place: 0,
-        }
+        Refusal::new(number, Layer::Run, 0)
     }
 }
 
@@ -197,10 +173,6 @@ impl Fault for ReadingFault {
             ReadingFault::NoTerm => 19,
             ReadingFault::FewItems => 20,
         };
-        Refusal {
-            number,
-            layer: Layer::Reading,
-            place: 0,
-        }
+        Refusal::new(number, Layer::Reading, 0)
     }
 }

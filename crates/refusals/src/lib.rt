@@ -4,4 +4,5 @@
 pub mod fault;
 pub mod faults;
 pub mod layer;
+pub mod memory;
 pub mod refusal;
