@@ -2,11 +2,10 @@
 use Rattle.std.proofs.Common.{◌≡◌, ℕ, ◌+◌, ◌<◌, ◌≤◌, List, [], ◌∷◌, ◌++◌, length, get_or, take, Ok, Err, Result, sym, ap, ◌∙◌, subst, arith, length-take}
 use Rattle.std.proofs.lemmas.List.{take_more, get_or-take}
 use Rattle.std.specs.List.Sorted.{IsPermutation}
-use Rattle.std.proofs.lemmas.List.Sorted.{IsPermutation-refl, IsPermutation-sym, IsPermutation-trans, length_permutation}
+use Rattle.std.proofs.lemmas.List.Sorted.{IsPermutation-append_right, IsPermutation-middle, IsPermutation-refl, IsPermutation-sym, IsPermutation-trans, length_permutation}
 use Rattle.refusals.specs.declared.faults.StrategyFault.{StrategyFault}
 use Rattle.strategies.specs.declared.pair.Pair.{Pair as Waiting}
 use Rattle.strategies.specs.Bags.{Put}
-use Rattle.strategies.proofs.Shuffles.{shuffled_after, shuffled_middle}
 use Rattle.pairs.specs.declared.formed.Formed.{Formed}
 use Rattle.pairs.specs.Forming.{formed}
 use Rattle.engine.specs.Calls.{Puts}
@@ -22,7 +21,7 @@ module _ {S : Type 0} (bag : S → List Waiting) (putting : S → Waiting → Re
   pub puts_bag : {s t : S} {ps : List Waiting} → Puts bag putting s ps t → IsPermutation (ps ++ bag s) (bag t)
   puts_bag none = IsPermutation-refl _
   puts_bag (put {s} {t} {u} {p} {ps} c d h) =
-      IsPermutation-trans _ _ _ (IsPermutation-trans _ _ _ (IsPermutation-sym _ _ (shuffled_middle ps p (bag s))) (shuffled_after ps _ _ c.more)) (puts_bag h)
+      IsPermutation-trans _ _ _ (IsPermutation-trans _ _ _ (IsPermutation-sym _ _ (IsPermutation-middle ps p (bag s))) (IsPermutation-append_right ps _ _ c.more)) (puts_bag h)
 
   pub puts-length : {s t : S} {ps : List Waiting} → Puts bag putting s ps t → length (bag t) ≡ length ps + length (bag s)
   puts-length none = omega arith
