@@ -1,15 +1,14 @@
 -- The graph of a table's net, as the table tells it. Assumes nothing.
 use Rattle.std.proofs.Common.{◌≡◌, ℕ, ◌+◌, ◌-◌, ◌<◌, ◌≤◌, true, cond, eqb, ltb, ◌≢◌, get_or, vec_items, Option, sym, ap, ◌∙◌, inl, inr, arith}
-use Rattle.std.proofs.lemmas.Bool.{cases_lt, cond-true, cond-false, lt-ltb, le-ltb, ltb-true, or_cases, eqb-true}
+use Rattle.std.proofs.lemmas.Bool.{cases_lt, ltb-true, or_cases, eqb-true}
 use Rattle.calculus.specs.Spots.{Spot, end, port}
 use Rattle.pairing.specs.Graph.{Sound}
 use Rattle.pairing.specs.Rows.{row_of, port_number, spot, kind_number, is_port, Fits}
-use Rattle.pairing.proofs.Pairs.{Pairs, Within, Free, Ok}
+use Rattle.pairing.proofs.Pairs.{Within}
 use Rattle.pairing.proofs.Rows.{spot_low, spot_high, cell_of, end_of, row_is, slot_is, few_rows, sound}
-use Rattle.pairing.proofs.Steps.{our_small, their_small, count_small, count_more}
 use Rattle.nets.specs.declared.table.Table.{Table}
 use Rattle.nets.specs.Meaning.{content, net}
-use Rattle.alike.specs.Pairings.{rows}
+use Rattle.alike.specs.Rows.{rows}
 use Rattle.nets.proofs.Places.{bit_low}
 use Rattle.nets.proofs.Standing.{is_there, port_there, end_there, there_end, kind_some, some_kind, twice, apart}
 
@@ -37,14 +36,8 @@ module _ (t : Table) (r : ℕ) where
   pub kind_cell : r < 1030 → (o : Option ℕ) → o ≡ (net t).kind r → kind_number o ≡ (rows t).kind r
   kind_cell h o e = ap kind_number e ∙ sym (cell_of (net t) r h)
 
-  end_kind : 1030 ≤ r → (rows t).kind r ≡ cond (ltb (r - 1030) t.ends) (r - 1030 + 1) 0
-  end_kind h = let z : 1030 + (r - 1030) ≡ r = omega arith in ap (rows t).kind (sym z) ∙ end_of (net t) (r - 1030)
-
-  pub kind_end : 1030 ≤ r → r - 1030 < t.ends → r - 1029 ≡ (rows t).kind r
-  kind_end h e = let z : r - 1029 ≡ r - 1030 + 1 = omega arith in z ∙ sym (end_kind h ∙ cond-true (ltb (r - 1030) t.ends) _ _ (lt-ltb (r - 1030) t.ends e))
-
-  pub kind_none : 1030 ≤ r → t.ends ≤ r - 1030 → 0 ≡ (rows t).kind r
-  kind_none h e = sym (end_kind h ∙ cond-false (ltb (r - 1030) t.ends) _ _ (le-ltb (r - 1030) t.ends e))
+  pub kind_end : 1030 ≤ r → cond (ltb (r - 1030) t.ends) (r - 1030 + 1) 0 ≡ (rows t).kind r
+  kind_end h = let z : 1030 + (r - 1030) ≡ r = omega arith in sym (end_of (net t) (r - 1030)) ∙ ap (rows t).kind z
 
 -- what is linked with another spot has a row
 row_small : (t : Table) (y : Spot) → (net t).mate y ≢ y → row_of y < 1094
@@ -57,7 +50,7 @@ module _ (t : Table) (r j : ℕ) (h : is_port r j ≡ true) where
   spot_parts = elim (cases_lt r 1030) [
     | inl l ↦ (ap row_of (spot_low r j l), ap port_number (spot_low r j l))
     | inr l ↦ elim (or_cases (ltb r 1030) (eqb j 0) h) [
-      | inl b ↦ absurd (let z = ltb-true r 1030 b in let y : ⊥ = omega arith in y)
+      | inl b ↦ absurd (let z = ltb-true r 1030 b in omega arith)
       | inr b ↦ let z = eqb-true j 0 b in let y : 1030 + (r - 1030) ≡ r = omega arith in (ap row_of (spot_high r j l) ∙ y, ap port_number (spot_high r j l) ∙ sym z)
     ]
   ]
@@ -76,17 +69,3 @@ module _ (t : Table) (r j : ℕ) (h : is_port r j ≡ true) where
       let u = to (spot r j) (ap (net t).mate (sym e) ∙ m ∙ e) in
       let v = spot_parts in
       (sym v.0 ∙ u.0, sym v.1 ∙ u.1)
-
--- two tables' pairs fit the lists of a pairing
-module _ (a b : Table) (m : Pairs) (ok : Ok (rows a) (rows b) m) where
-  pub our_row : (k : ℕ) → k < m.count → m.ours k < 1094
-  our_row = our_small 1094 (rows a) (rows b) (within a) (within b) m ok
-
-  pub their_row : (k : ℕ) → k < m.count → m.theirs k < 1094
-  their_row = their_small 1094 (rows a) (rows b) (within a) (within b) m ok
-
-  pub few_pairs_lem : m.count ≤ 1094
-  few_pairs_lem = count_small 1094 (rows a) (rows b) (within a) (within b) m ok
-
-  pub one_more : (x : ℕ) → x < 1094 → Free m.count m.ours x → m.count < 1094
-  one_more = count_more 1094 (rows a) (rows b) (within a) (within b) m ok

@@ -1,1 +1,3 @@
 pub mod Pairings
+pub mod Rows
+pub mod Sides

@@ -85,7 +85,7 @@ module _ (A B : Graph) (M N : Net) (f g : ℕ → ℕ) (sa : Sound A) (da : Draw
       let u = (i.to p l).0 in
       let w = end_kind A M da p h l in
       elim (cases_lt (f p) 1030) [
-        | inl t ↦ absurd (let v = db.cell_kind (f p) t (λ e. l (sym u ∙ e)) in let z : ⊥ = omega arith in z)
+        | inl t ↦ absurd (let v = db.cell_kind (f p) t (λ e. l (sym u ∙ e)) in omega arith)
         | inr t ↦ let v = end_kind B N db (f p) t (λ e. l (sym u ∙ e)) in omega arith
       ]
 

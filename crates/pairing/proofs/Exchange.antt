@@ -1,13 +1,9 @@
 -- The exchange lemma. Assumes nothing.
-use Rattle.std.proofs.Common.{◌≡◌, ℕ, ◌<◌, Bool, true, false, ◌≢◌, ◌⊎◌, sym, refl, ap, ◌∙◌, inl, inr}
+use Rattle.std.proofs.Common.{◌≡◌, ℕ, ◌<◌, Bool, true, false, ◌≢◌, ◌⊎◌, sym, ap, ◌∙◌, inl, inr}
+use Rattle.std.specs.Cmp.{both_ways as same_tests}
 use Rattle.std.proofs.lemmas.Bool.{cases_Bool, both_ways}
 use Rattle.pairing.specs.Graph.{Graph, Sound, Iso}
 use Rattle.pairing.specs.Pieces.{Stable, Piece, exchanged}
-
-both : (b c : Bool) → (b ≡ true → c ≡ true) → (c ≡ true → b ≡ true) → c ≡ b
-both true c f g = f refl
-both false true f g = sym (g refl)
-both false false f g = refl
 
 pub iso_sym : {A B : Graph} {f g : ℕ → ℕ} → Sound A → Iso A B f g → Iso B A g f
 iso_sym {A} {B} {f} {g} s i = record {
@@ -41,10 +37,10 @@ piece_sym {A} {B} {P} {Q} {h} {k} c = record {
 
 pub stable : {A B : Graph} {P Q : ℕ → Bool} {h k : ℕ → ℕ} → Sound A → Piece A B P Q h k → Stable A P
 stable {A} {B} {P} {Q} {h} {k} s c x j l m =
-    both (P x) (P (A.row x j)) (λ e. (c.links x j e m).0) (λ e.
+    same_tests (P (A.row x j)) (P x) (λ e.
     let u = (c.links (A.row x j) (A.slot x j) e (s.slots x j l m)).0 in
     let v = s.back_row x j l m in
-    cc)
+    cc) (λ e. (c.links x j e m).0)
 
 module _ (A B : Graph) (P Q : ℕ → Bool) (h k : ℕ → ℕ) (f g : ℕ → ℕ) (sa : Sound A) (sb : Sound B) (c : Piece A B P Q h k) (i : Iso A B f g) where
   i' : Iso B A g f

@@ -6,9 +6,17 @@ use Rattle.pairing.specs.Graph.{Graph, Iso, Isomorphic}
 abbrev pub Paired : ℕ → (ℕ → ℕ) → (ℕ → ℕ) → ℕ → ℕ → Type 0
 Paired n l r p q = (k : ℕ) × (k < n) × (l k ≡ p) × (r k ≡ q)
 
--- x is in no pair
+-- x is in some pair, or in none
+abbrev pub Listed : ℕ → (ℕ → ℕ) → ℕ → Type 0
+Listed n l x = (k : ℕ) × (k < n) × (l k ≡ x)
+
 abbrev pub Free : ℕ → (ℕ → ℕ) → ℕ → Type 0
 Free n l x = (k : ℕ) → k < n → l k ≢ x
+
+-- the pair that x is in
+abbrev pub Found : ℕ → (ℕ → ℕ) → ℕ → Option ℕ → Type 0
+Found n l x None = Free n l x
+Found n l x (Some k) = (k < n) × (l k ≡ x)
 
 -- each row stands once on its side, where a and b say, and goes with one of its kind
 pub record Matched (A B : Graph) (n : ℕ) (l r a b : ℕ → ℕ) : Type 0 where
@@ -56,13 +64,6 @@ Sprung A B o m = Born A B o m.count m.ours m.theirs
 abbrev pub Has : (ℕ → ℕ) → Pairs → Type 0
 Has f m = Extends f m.count m.ours m.theirs
 
--- p is among ours, q among theirs
-abbrev pub Ours : Pairs → ℕ → Type 0
-Ours m p = (k : ℕ) × (k < m.count) × (m.ours k ≡ p)
-
-abbrev pub Theirs : Pairs → ℕ → Type 0
-Theirs m q = (k : ℕ) × (k < m.count) × (m.theirs k ≡ q)
-
 -- no renumbering has the pairs of m
 abbrev pub Never : Graph → Graph → Pairs → Type 0
 Never A B m = (f g : ℕ → ℕ) → Iso A B f g → Has f m → ⊥
@@ -75,22 +76,6 @@ Refutes A B m x y = (f g : ℕ → ℕ) → Iso A B f g → Has f m → f x ≡ 
 abbrev pub Keeps : Graph → Graph → Pairs → Pairs → Type 0
 Keeps A B m m' = (f g : ℕ → ℕ) → Iso A B f g → Has f m → (f' : ℕ → ℕ) × (g' : ℕ → ℕ) × Iso A B f' g' × Has f' m'
 
--- each row stands where its seat says
-abbrev pub OurSeats : Pairs → Type 0
-OurSeats m = (k : ℕ) → k < m.count → m.our_seat (m.ours k) ≡ k
-
-abbrev pub TheirSeats : Pairs → Type 0
-TheirSeats m = (k : ℕ) → k < m.count → m.their_seat (m.theirs k) ≡ k
-
--- the pair that our row x, or their row y, is in
-abbrev pub InOurs : Pairs → ℕ → Option ℕ → Type 0
-InOurs m x None = OurSeats m → Free m.count m.ours x
-InOurs m x (Some k) = (k < m.count) × (m.ours k ≡ x)
-
-abbrev pub InTheirs : Pairs → ℕ → Option ℕ → Type 0
-InTheirs m y None = TheirSeats m → Free m.count m.theirs y
-InTheirs m y (Some k) = (k < m.count) × (m.theirs k ≡ y)
-
 -- the pairs of m, and perhaps more
 pub record Grown (m m' : Pairs) : Type 0 where
   pub longer : m.count ≤ m'.count
@@ -101,13 +86,14 @@ pub record Added (m m' : Pairs) (x y : ℕ) : Type 0 where
   pub count : m'.count ≡ m.count + 1
   pub last : (m'.ours m.count ≡ x) × (m'.theirs m.count ≡ y)
   pub same : (k : ℕ) → k < m.count → (m'.ours k ≡ m.ours k) × (m'.theirs k ≡ m.theirs k)
-  pub seats : (m'.our_seat x ≡ m.count) × (m'.their_seat y ≡ m.count)
-  pub our_seats : (p : ℕ) → p ≢ x → m'.our_seat p ≡ m.our_seat p
-  pub their_seats : (q : ℕ) → q ≢ y → m'.their_seat q ≡ m.their_seat q
+
+-- m' has the first n pairs of m
+pub record Cut (m : Pairs) (n : ℕ) (m' : Pairs) : Type 0 where
+  pub count : m'.count ≡ n
+  pub same : (k : ℕ) → k < n → (m'.ours k ≡ m.ours k) × (m'.theirs k ≡ m.theirs k)
 
 -- x and y are a pair now, if they were not before
-pub record Met (A B : Graph) (m m' : Pairs) (x y : ℕ) : Type 0 where
-  pub good : Ok A B m'
+pub record Met (m m' : Pairs) (x y : ℕ) : Type 0 where
   pub grown : Grown m m'
   pub new : (k : ℕ) → m.count ≤ k → k < m'.count → (m'.ours k ≡ x) × (m'.theirs k ≡ y)
   pub pair : Paired m'.count m'.ours m'.theirs x y
@@ -118,12 +104,11 @@ Bred A B h m m' = (k : ℕ) → m.count ≤ k → k < m'.count → (j : ℕ) × 
 
 -- x and y were made a pair, or cannot be one
 pub record Meets (A B : Graph) (m m' : Pairs) (x y : ℕ) (r : Bool) : Type 0 where
-  pub yes : r ≡ true → Met A B m m' x y
+  pub yes : r ≡ true → Met m m' x y
   pub no : r ≡ false → (m' ≡ m) × Refutes A B m x y
 
 -- the three ports of the pair at h
 pub record Settles (A B : Graph) (h : ℕ) (m m' : Pairs) (r : Bool) : Type 0 where
-  pub good : Ok A B m'
   pub grown : Grown m m'
   pub bred : Bred A B h m m'
   pub yes : r ≡ true → Settled A B (3 * h + 3) m'
@@ -131,36 +116,38 @@ pub record Settles (A B : Graph) (h : ℕ) (m m' : Pairs) (r : Bool) : Type 0 wh
 
 -- the piece of p with the piece of q
 pub record Tried (A B : Graph) (p q : ℕ) (m m' : Pairs) (r : Bool) : Type 0 where
-  pub good : Ok A B m'
   pub settled : Settled A B (3 * m'.count) m'
   pub grown : Grown m m'
-  pub yes : r ≡ true → Keeps A B m m' × Ours m' p
+  pub yes : r ≡ true → Keeps A B m m' × Listed m'.count m'.ours p
   pub no : r ≡ false → (m'.count ≡ m.count) × Refutes A B m p q
 
 -- the piece of p with some piece
 pub record Placed (A B : Graph) (p : ℕ) (m m' : Pairs) (r : Bool) : Type 0 where
-  pub good : Ok A B m'
   pub settled : Settled A B (3 * m'.count) m'
   pub grown : Grown m m'
-  pub yes : r ≡ true → Keeps A B m m' × Ours m' p
+  pub yes : r ≡ true → Keeps A B m m' × Listed m'.count m'.ours p
   pub no : r ≡ false → Never A B m
 
 -- every piece of A
 pub record Spread (A B : Graph) (m' : Pairs) (r : Bool) : Type 0 where
-  pub good : Ok A B m'
   pub settled : Settled A B (3 * m'.count) m'
-  pub yes : r ≡ true → ((p : ℕ) → A.kind p ≢ 0 → Ours m' p) × (Isomorphic A B → (f : ℕ → ℕ) × (g : ℕ → ℕ) × Iso A B f g × Has f m')
+  pub yes : r ≡ true → ((p : ℕ) → A.kind p ≢ 0 → Listed m'.count m'.ours p) × (Isomorphic A B → (f : ℕ → ℕ) × (g : ℕ → ℕ) × Iso A B f g × Has f m')
   pub no : r ≡ false → Isomorphic A B → ⊥
 
--- every row of B is in a pair, or some is not
-pub record Covers (B : Graph) (m : Pairs) (r : Bool) : Type 0 where
-  pub yes : r ≡ true → (q : ℕ) → B.kind q ≢ 0 → Theirs m q
-  pub no : r ≡ false → (q : ℕ) × (B.kind q ≢ 0) × Free m.count m.theirs q
-
 -- p is there, and in no pair
-pub record Loose (A : Graph) (m : Pairs) (p : ℕ) : Type 0 where
+pub record Loose (A : Graph) (n : ℕ) (l : ℕ → ℕ) (p : ℕ) : Type 0 where
   pub live : A.kind p ≢ 0
-  pub free : Free m.count m.ours p
+  pub free : Free n l p
+
+-- whether it is so
+pub record IsLoose (A : Graph) (n : ℕ) (l : ℕ → ℕ) (p : ℕ) (r : Bool) : Type 0 where
+  pub yes : r ≡ true → Loose A n l p
+  pub no : r ≡ false → A.kind p ≢ 0 → Listed n l p
+
+-- every row is in a pair, or some is not
+pub record Covers (A : Graph) (n : ℕ) (l : ℕ → ℕ) (r : Bool) : Type 0 where
+  pub yes : r ≡ true → (p : ℕ) → A.kind p ≢ 0 → Listed n l p
+  pub no : r ≡ false → (p : ℕ) × Loose A n l p
 
 -- q is of p's kind, and in no pair
 pub record Fresh (A B : Graph) (m : Pairs) (p q : ℕ) : Type 0 where

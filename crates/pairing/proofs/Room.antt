@@ -34,10 +34,10 @@ room (suc N) (suc n) l s o = let z = room N n l' s' o' in omega arith
     o' i k hi hk e = elim (cases_eq (l i) N) [
       | inl p ↦ elim (cases_eq (l k) N) [
         | inl q ↦ o i k (omega arith) (omega arith) (p ∙ sym q)
-        | inr q ↦ absurd (let z = o n k (omega arith) (omega arith) (sym (top i p) ∙ e ∙ low k q) in let y : ⊥ = omega arith in y)
+        | inr q ↦ absurd (let z = o n k (omega arith) (omega arith) (sym (top i p) ∙ e ∙ low k q) in omega arith)
       ]
       | inr p ↦ elim (cases_eq (l k) N) [
-        | inl q ↦ absurd (let z = o i n (omega arith) (omega arith) (sym (low i p) ∙ e ∙ top k q) in let y : ⊥ = omega arith in y)
+        | inl q ↦ absurd (let z = o i n (omega arith) (omega arith) (sym (low i p) ∙ e ∙ top k q) in omega arith)
         | inr q ↦ o i k (omega arith) (omega arith) (sym (low i p) ∙ e ∙ low k q)
       ]
     ]

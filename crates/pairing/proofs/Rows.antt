@@ -106,7 +106,7 @@ module _ (M : Net) where
     cell_back r c h e = go (M.kind r) (sym (cell_of r h) ∙ e)
       where
         go : (o : Option ℕ) → kind_number o ≡ 65 + c → o ≡ Some c
-        go None d = absurd (let z : ⊥ = omega arith in z)
+        go None d = absurd (omega arith)
         go (Some k) d = let z : k ≡ c = omega arith in ap Some z
 
     cell_kind : (r : ℕ) → r < 1030 → (graph M).kind r ≢ 0 → 65 ≤ (graph M).kind r
@@ -224,7 +224,7 @@ module _ (M : Net) where
       end_mate = λ e. sym (spot_at_lem (end e) tt);
       end_linked = f.linked;
       end_port = λ e j h.
-          let b : is_port (1030 + e) j ≡ false = or_from (ltb (1030 + e) 1030) (eqb j 0) (le-ltb (1030 + e) 1030 (omega arith)) (ne_eqb j 0 (λ z. (let y : ⊥ = omega arith in y))) in
+          let b : is_port (1030 + e) j ≡ false = or_from (ltb (1030 + e) 1030) (eqb j 0) (le-ltb (1030 + e) 1030 (omega arith)) (ne_eqb j 0 (λ z. (omega arith))) in
           (row_none (1030 + e) j b, slot_none (1030 + e) j b);
       port_there = λ r j n. let u = live (port r j) n in (u.0, u.2, u.1);
       end_there = f.ends;

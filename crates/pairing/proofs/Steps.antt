@@ -2,62 +2,16 @@
 use Rattle.std.proofs.Common.{◌≡◌, ℕ, ◌+◌, ◌*◌, ◌<◌, ◌≤◌, true, false, eqb, ◌≢◌, is_some, Some, None, Option, sym, refl, ap, ◌∙◌, subst, inl, inr, arith}
 use Rattle.std.proofs.lemmas.Bool.{cases_lt, true≢false, eqb-true, eqb-false}
 use Rattle.pairing.specs.Graph.{Graph, Sound, Iso, Isomorphic}
-use Rattle.pairing.proofs.Pairs.{Paired, Free, Extends, Pairs, Within, Ok, Settled, Sprung, Has, Ours, Theirs, OurSeats, TheirSeats, InOurs, InTheirs, Never, Refutes, Grown, Added, Met, Bred, Meets, Settles, Tried, Placed, Spread, Covers, Loose, Fresh}
-use Rattle.pairing.proofs.Growth.{once, once', mates, forced, grown, total}
-use Rattle.pairing.proofs.Room.{room, room_more}
+use Rattle.pairing.proofs.Pairs.{Paired, Listed, Free, Found, Extends, Pairs, Within, Ok, Settled, Sprung, Has, Never, Refutes, Grown, Added, Cut, Met, Bred, Meets, Settles, Tried, Placed, Spread, Covers}
+use Rattle.pairing.proofs.Growth.{once, mates, forced, grown, total}
 
--- a free pair of one kind added
-pub adds : (A B : Graph) (m m' : Pairs) (x y : ℕ) → Ok A B m → Added m m' x y →
-    Free m.count m.ours x → Free m.count m.theirs y → A.kind x ≢ 0 → B.kind y ≡ A.kind x → Met A B m m' x y
-adds A B m m' x y ok ad fx fy kx ky = record {
-  good = record { places = places; kinds = kinds };
+-- a pair added: x and y are one now
+pub adds : {m m' : Pairs} {x y : ℕ} → Added m m' x y → Met m m' x y
+adds {m} {m'} {x} {y} ad = record {
   grown = record { longer = let e = ad.count in omega arith; same = ad.same };
   new = λ k h t. let e = ad.count in let z : k ≡ m.count = omega arith in (ap m'.ours z ∙ ad.last.0, ap m'.theirs z ∙ ad.last.1);
   pair = (m.count, (let e = ad.count in omega arith), ad.last.0, ad.last.1);
 }
-  where
-    places : (k : ℕ) → k < m'.count → (m'.our_seat (m'.ours k) ≡ k) × (m'.their_seat (m'.theirs k) ≡ k)
-    places k h = elim (cases_lt k m.count) [
-      | inl t ↦
-          let o = ad.same k t in (
-            ap m'.our_seat o.0 ∙ ad.our_seats (m.ours k) (fx k t) ∙ (ok.places k t).0,
-            ap m'.their_seat o.1 ∙ ad.their_seats (m.theirs k) (fy k t) ∙ (ok.places k t).1,
-          )
-      | inr t ↦
-          let e = ad.count in
-          let z : m.count ≡ k = omega arith in (
-            ap m'.our_seat (ap m'.ours (sym z) ∙ ad.last.0) ∙ ad.seats.0 ∙ z,
-            ap m'.their_seat (ap m'.theirs (sym z) ∙ ad.last.1) ∙ ad.seats.1 ∙ z,
-          )
-    ]
-
-    kinds : (k : ℕ) → k < m'.count → (A.kind (m'.ours k) ≢ 0) × (B.kind (m'.theirs k) ≡ A.kind (m'.ours k))
-    kinds k h = elim (cases_lt k m.count) [
-      | inl t ↦
-          let u = ok.kinds k t in
-          let o = ad.same k t in
-          ((λ e. u.0 (ap A.kind (sym o.0) ∙ e)), ap B.kind o.1 ∙ u.1 ∙ ap A.kind (sym o.0))
-      | inr t ↦
-          let e = ad.count in
-          let z : k ≡ m.count = omega arith in
-          let p : m'.ours k ≡ x = ap m'.ours z ∙ ad.last.0 in
-          let q : m'.theirs k ≡ y = ap m'.theirs z ∙ ad.last.1 in
-          ((λ d. kx (ap A.kind (sym p) ∙ d)), ap B.kind q ∙ ky ∙ ap A.kind (sym p))
-    ]
-
--- there is room for all pairs
-module _ (N : ℕ) (A B : Graph) (wa : Within N A) (wb : Within N B) (m : Pairs) (ok : Ok A B m) where
-  pub our_small : (k : ℕ) → k < m.count → m.ours k < N
-  our_small k h = wa (m.ours k) (ok.kinds k h).0
-
-  pub their_small : (k : ℕ) → k < m.count → m.theirs k < N
-  their_small k h = wb (m.theirs k) (λ e. (ok.kinds k h).0 (sym (ok.kinds k h).1 ∙ e))
-
-  pub count_small : m.count ≤ N
-  count_small = room N m.count m.ours our_small (once A B m.count m.ours m.theirs m.our_seat m.their_seat ok)
-
-  pub count_more : (x : ℕ) → x < N → Free m.count m.ours x → m.count < N
-  count_more x h fr = room_more N m.count m.ours x our_small (once A B m.count m.ours m.theirs m.our_seat m.their_seat ok) h fr
 
 pub grown_refl : (m : Pairs) → Grown m m
 grown_refl m = record { longer = omega arith; same = λ k h. (refl, refl) }
@@ -87,15 +41,13 @@ settled_grown A B {m} {n} g s le c k j h t =
 
 -- as the ports of the pair at h are gone through
 pub record Turn (A B : Graph) (h j : ℕ) (m₀ m : Pairs) : Type 0 where
-  pub good : Ok A B m
   pub grown : Grown m₀ m
   pub bred : Bred A B h m₀ m
   pub closed : Settled A B (3 * h + j) m
 
 module _ (A B : Graph) (h j : ℕ) (m₀ m : Pairs) (ok₀ : Ok A B m₀) (lt : h < m₀.count) (j3 : j < 3) (t : Turn A B h j m₀ m) where
-  pub turn_more : (m' : Pairs) → A.slot (m₀.ours h) j ≡ B.slot (m₀.theirs h) j → Met A B m m' (A.row (m₀.ours h) j) (B.row (m₀.theirs h) j) → Turn A B h (j + 1) m₀ m'
+  pub turn_more : (m' : Pairs) → A.slot (m₀.ours h) j ≡ B.slot (m₀.theirs h) j → Met m m' (A.row (m₀.ours h) j) (B.row (m₀.theirs h) j) → Turn A B h (j + 1) m₀ m'
   turn_more m' e q = record {
-    good = q.good;
     grown = gr;
     bred = λ k a b. elim (cases_lt k m.count) [
       | inl c ↦ let u = t.bred k a c in let v = q.grown.same k c in (u.0, u.1, v.0 ∙ u.2, v.1 ∙ u.3)
@@ -135,42 +87,40 @@ module _ (A B : Graph) (h j : ℕ) (m₀ m : Pairs) (ok₀ : Ok A B m₀) (lt : 
   pub stuck_meet : Refutes A B m (A.row (m₀.ours h) j) (B.row (m₀.theirs h) j) → Never A B m₀
   stuck_meet re f g i hs = re f g i (has_more f g i hs) (mates A B m₀.count m₀.ours m₀.theirs m₀.our_seat m₀.their_seat ok₀ f g i h j lt j3 (hs h lt)).0
 
-pub turn_none : (A B : Graph) (h : ℕ) (m : Pairs) → Ok A B m → Settled A B (3 * h) m → Turn A B h 0 m m
-turn_none A B h m ok s = record { good = ok; grown = grown_refl m; bred = λ k a b. absurd (let z : ⊥ = omega arith in z); closed = λ k j a b. s k j a (omega arith) }
+pub turn_none : (A B : Graph) (h : ℕ) (m : Pairs) → Settled A B (3 * h) m → Turn A B h 0 m m
+turn_none A B h m s = record { grown = grown_refl m; bred = λ k a b. absurd (omega arith); closed = λ k j a b. s k j a (omega arith) }
 
 pub settles_yes : (A B : Graph) (h j : ℕ) (m₀ m : Pairs) → 3 ≤ j → Turn A B h j m₀ m → Settles A B h m₀ m true
-settles_yes A B h j m₀ m le t = record { good = t.good; grown = t.grown; bred = t.bred; yes = λ _ k i a b. t.closed k i a (omega arith); no = λ e. absurd (true≢false e) }
+settles_yes A B h j m₀ m le t = record { grown = t.grown; bred = t.bred; yes = λ _ k i a b. t.closed k i a (omega arith); no = λ e. absurd (true≢false e) }
 
 pub settles_no : (A B : Graph) (h j : ℕ) (m₀ m m' : Pairs) → m' ≡ m → Turn A B h j m₀ m → Never A B m₀ → Settles A B h m₀ m' false
-settles_no A B h j m₀ m m' e t n = subst (λ (z : Pairs). Settles A B h m₀ z false) (sym e) (record { good = t.good; grown = t.grown; bred = t.bred; yes = λ e. absurd (true≢false (sym e)); no = λ _. n })
+settles_no A B h j m₀ m m' e t n = subst (λ (z : Pairs). Settles A B h m₀ z false) (sym e) (record { grown = t.grown; bred = t.bred; yes = λ e. absurd (true≢false (sym e)); no = λ _. n })
 
-abbrev pub cut : Pairs → ℕ → Pairs
+abbrev cut : Pairs → ℕ → Pairs
 cut m n = record { count = n; ours = m.ours; theirs = m.theirs; our_seat = m.our_seat; their_seat = m.their_seat }
 
-pub ok_cut : (A B : Graph) (m : Pairs) (n : ℕ) → n ≤ m.count → Ok A B m → Ok A B (cut m n)
-ok_cut A B m n le ok = record { places = λ k h. ok.places k (omega arith); kinds = λ k h. ok.kinds k (omega arith) }
-
-pub grown_cut : {m n : Pairs} → Grown m n → Grown m (cut n m.count)
+grown_cut : {m n : Pairs} → Grown m n → Grown m (cut n m.count)
 grown_cut {m} {n} g = record { longer = omega arith; same = g.same }
 
 -- as the pairs from the one at o on are gone through; m₁ is the pairing with that one just added
 pub record Wave (A B : Graph) (o : ℕ) (m₁ : Pairs) (h : ℕ) (m : Pairs) : Type 0 where
-  pub good : Ok A B m
   pub grown : Grown m₁ m
   pub sprung : Sprung A B o m
   pub closed : Settled A B (3 * h) m
   pub low : o ≤ h
   pub high : h ≤ m.count
 
-module _ (A B : Graph) (p q : ℕ) (m₀ m₁ : Pairs) (sa : Sound A) (sb : Sound B) (ok₀ : Ok A B m₀) (s₀ : Settled A B (3 * m₀.count) m₀) (e : m₁.count ≡ m₀.count + 1) (met : Met A B m₀ m₁ p q) where
+module _ (A B : Graph) (p q : ℕ) (m₀ m₁ : Pairs) (sa : Sound A) (sb : Sound B) (s₀ : Settled A B (3 * m₀.count) m₀) (ad : Added m₀ m₁ p q) where
+  met : Met m₀ m₁ p q
+  met = adds ad
+
   pub wave_none : Wave A B m₀.count m₁ m₀.count m₁
   wave_none = record {
-    good = met.good;
     grown = grown_refl m₁;
-    sprung = λ k a b. absurd (let z : ⊥ = omega arith in z);
+    sprung = λ k a b. absurd (omega arith);
     closed = settled_grown A B met.grown (3 * m₀.count) (omega arith) s₀;
     low = omega arith;
-    high = omega arith;
+    high = met.grown.longer;
   }
 
   module _ (h : ℕ) (m : Pairs) (w : Wave A B m₀.count m₁ h m) where
@@ -178,13 +128,13 @@ module _ (A B : Graph) (p q : ℕ) (m₀ m₁ : Pairs) (sa : Sound A) (sb : Soun
     whole = grown_trans met.grown w.grown
 
     more : m₀.count < m.count
-    more = let z = w.grown.longer in omega arith
+    more = let e = ad.count in let z = w.grown.longer in omega arith
 
     seed : (m.ours m₀.count ≡ p) × (m.theirs m₀.count ≡ q)
     seed =
-        let u = met.new m₀.count (omega arith) (omega arith) in
+        let e = ad.count in
         let v = w.grown.same m₀.count (omega arith) in
-        (v.0 ∙ u.0, v.1 ∙ u.1)
+        (v.0 ∙ ad.last.0, v.1 ∙ ad.last.1)
 
     -- a renumbering with the old pairs has them as they stand now
     extends : (f : ℕ → ℕ) → Has f m₀ → Extends f m₀.count m.ours m.theirs
@@ -192,7 +142,6 @@ module _ (A B : Graph) (p q : ℕ) (m₀ m₁ : Pairs) (sa : Sound A) (sb : Soun
 
     pub wave_more : (m' : Pairs) → h < m.count → Settles A B h m m' true → Wave A B m₀.count m₁ (h + 1) m'
     wave_more m' lt s = record {
-      good = s.good;
       grown = grown_trans w.grown s.grown;
       sprung = λ k a b. elim (cases_lt k m.count) [
         | inl c ↦
@@ -211,13 +160,12 @@ module _ (A B : Graph) (p q : ℕ) (m₀ m₁ : Pairs) (sa : Sound A) (sb : Soun
       high = let z = s.grown.longer in omega arith;
     }
 
-    pub tried_yes : m.count ≤ h → Tried A B p q m₀ m true
-    tried_yes le = record {
-      good = w.good;
+    pub tried_yes : Ok A B m → m.count ≤ h → Tried A B p q m₀ m true
+    tried_yes ok le = record {
       settled = all;
       grown = whole;
       yes = λ _. (
-        (λ f g i hs. grown A B m.count m.ours m.theirs m.our_seat m.their_seat w.good m₀.count more sa sb
+        (λ f g i hs. grown A B m.count m.ours m.theirs m.our_seat m.their_seat ok m₀.count more sa sb
             (settled_grown A B (grown_cut whole) (3 * m₀.count) (omega arith) s₀) all w.sprung f g i (extends f hs)),
         (m₀.count, more, seed.0),
       );
@@ -227,28 +175,27 @@ module _ (A B : Graph) (p q : ℕ) (m₀ m₁ : Pairs) (sa : Sound A) (sb : Soun
         all : Settled A B (3 * m.count) m
         all k j a b = w.closed k j a (omega arith)
 
-    pub tried_no : (m' : Pairs) → h < m.count → Settles A B h m m' false → Tried A B p q m₀ (cut m' m₀.count) false
-    tried_no m' lt s = record {
-      good = ok_cut A B m' m₀.count gr.longer s.good;
-      settled = settled_grown A B (grown_cut gr) (3 * m₀.count) (omega arith) s₀;
-      grown = grown_cut gr;
+    -- m'' is what was at the start, after pairs that came to nothing
+    pub tried_no : (m' m'' : Pairs) → Ok A B m → h < m.count → Settles A B h m m' false → Cut m' m₀.count m'' → Tried A B p q m₀ m'' false
+    tried_no m' m'' ok lt s c = record {
+      settled = subst (λ (n : ℕ). Settled A B (3 * n) m'') (sym c.count) (settled_grown A B back (3 * m₀.count) (omega arith) s₀);
+      grown = back;
       yes = λ e. absurd (true≢false (sym e));
       no = λ _. (
-        refl,
+        c.count,
         λ f g i hs d. s.no refl f g i
-            (forced A B m.count m.ours m.theirs m.our_seat m.their_seat w.good m₀.count f g i w.sprung (extends f hs) (ap f seed.0 ∙ d ∙ sym seed.1)),
+            (forced A B m.count m.ours m.theirs m.our_seat m.their_seat ok m₀.count f g i w.sprung (extends f hs) (ap f seed.0 ∙ d ∙ sym seed.1)),
       );
     }
       where
-        gr : Grown m₀ m'
-        gr = grown_trans whole s.grown
-
-pub first : (A B : Graph) (m m₁ : Pairs) (p q : ℕ) → Ok A B m → Loose A m p → Fresh A B m p q → Added m m₁ p q → Met A B m m₁ p q
-first A B m m₁ p q ok l s ad = adds A B m m₁ p q ok ad l.free s.free l.live s.kind
+        back : Grown m₀ m''
+        back = record {
+          longer = let e = c.count in omega arith;
+          same = λ k l. let u = (grown_trans whole s.grown).same k l in let v = c.same k l in (v.0 ∙ u.0, v.1 ∙ u.1);
+        }
 
 -- as the rows below y are tried for p
 pub record Sought (A B : Graph) (p : ℕ) (m₀ : Pairs) (y : ℕ) (m : Pairs) : Type 0 where
-  pub good : Ok A B m
   pub settled : Settled A B (3 * m.count) m
   pub grown : Grown m₀ m
   pub count : m.count ≡ m₀.count
@@ -261,9 +208,8 @@ module _ (A B : Graph) (p : ℕ) (m₀ : Pairs) (y : ℕ) (m : Pairs) (s : Sough
   pub free_still : Free m₀.count m₀.ours p → Free m.count m.ours p
   free_still fr k t d = let e = s.count in let u = s.grown.same k (omega arith) in fr k (omega arith) (sym u.0 ∙ d)
 
-  pub sought_more : (m' : Pairs) → Ok A B m' → Settled A B (3 * m'.count) m' → Grown m m' → m'.count ≡ m.count → Refutes A B m p y → Sought A B p m₀ (y + 1) m'
-  sought_more m' ok st gr e re = record {
-    good = ok;
+  pub sought_more : (m' : Pairs) → Settled A B (3 * m'.count) m' → Grown m m' → m'.count ≡ m.count → Refutes A B m p y → Sought A B p m₀ (y + 1) m'
+  sought_more m' st gr e re = record {
     settled = st;
     grown = grown_trans s.grown gr;
     count = e ∙ s.count;
@@ -275,19 +221,17 @@ module _ (A B : Graph) (p : ℕ) (m₀ : Pairs) (y : ℕ) (m : Pairs) (s : Sough
 
   pub placed_yes : (m' : Pairs) → Tried A B p y m m' true → Placed A B p m₀ m' true
   placed_yes m' t = record {
-    good = t.good;
     settled = t.settled;
     grown = grown_trans s.grown t.grown;
     yes = λ _. ((λ f g i hs. (t.yes refl).0 f g i (has_still f hs)), (t.yes refl).1);
     no = λ e. absurd (true≢false e);
   }
 
-pub sought_none : (A B : Graph) (p : ℕ) (m : Pairs) → Ok A B m → Settled A B (3 * m.count) m → Sought A B p m 0 m
-sought_none A B p m ok s = record { good = ok; settled = s; grown = grown_refl m; count = refl; tried = λ x h. absurd (let z : ⊥ = omega arith in z) }
+pub sought_none : (A B : Graph) (p : ℕ) (m : Pairs) → Settled A B (3 * m.count) m → Sought A B p m 0 m
+sought_none A B p m s = record { settled = s; grown = grown_refl m; count = refl; tried = λ x h. absurd (omega arith) }
 
 pub placed_no : (N : ℕ) (A B : Graph) (p : ℕ) (m₀ : Pairs) (y : ℕ) (m : Pairs) → Within N B → A.kind p ≢ 0 → N ≤ y → Sought A B p m₀ y m → Placed A B p m₀ m false
 placed_no N A B p m₀ y m wb l le s = record {
-  good = s.good;
   settled = s.settled;
   grown = s.grown;
   yes = λ e. absurd (true≢false (sym e));
@@ -299,36 +243,32 @@ placed_no N A B p m₀ y m wb l le s = record {
 
 -- as the rows of A below y are placed
 pub record Laid (A B : Graph) (y : ℕ) (m : Pairs) : Type 0 where
-  pub good : Ok A B m
   pub settled : Settled A B (3 * m.count) m
-  pub placed : (x : ℕ) → x < y → A.kind x ≢ 0 → Ours m x
+  pub placed : (x : ℕ) → x < y → A.kind x ≢ 0 → Listed m.count m.ours x
   pub open' : Isomorphic A B → (f : ℕ → ℕ) × (g : ℕ → ℕ) × Iso A B f g × Has f m
 
 pub laid_none : (A B : Graph) (m : Pairs) → m.count ≡ 0 → Laid A B 0 m
 laid_none A B m e = record {
-  good = record { places = λ k h. absurd (let z : ⊥ = omega arith in z); kinds = λ k h. absurd (let z : ⊥ = omega arith in z) };
-  settled = λ k j a b. absurd (let z : ⊥ = omega arith in z);
-  placed = λ x h. absurd (let z : ⊥ = omega arith in z);
-  open' = λ i. (i.0, i.1, i.2, λ k h. absurd (let z : ⊥ = omega arith in z));
+  settled = λ k j a b. absurd (omega arith);
+  placed = λ x h. absurd (omega arith);
+  open' = λ i. (i.0, i.1, i.2, λ k h. absurd (omega arith));
 }
 
 module _ (A B : Graph) (y : ℕ) (m : Pairs) (l : Laid A B y m) where
-  pub laid_more : (A.kind y ≢ 0 → Ours m y) → Laid A B (y + 1) m
+  pub laid_more : (A.kind y ≢ 0 → Listed m.count m.ours y) → Laid A B (y + 1) m
   laid_more o = record {
-    good = l.good;
     settled = l.settled;
     placed = λ x h k. elim (cases_lt x y) [
       | inl c ↦ l.placed x c k
       | inr c ↦
           let z : y ≡ x = omega arith in
-          subst (λ (w : ℕ). Ours m w) z (o (λ e. k (ap A.kind (sym z) ∙ e)))
+          subst (λ (w : ℕ). Listed m.count m.ours w) z (o (λ e. k (ap A.kind (sym z) ∙ e)))
     ];
     open' = l.open';
   }
 
   pub laid_placed : (m' : Pairs) → Placed A B y m m' true → Laid A B (y + 1) m'
   laid_placed m' t = record {
-    good = t.good;
     settled = t.settled;
     placed = λ x h k. elim (cases_lt x y) [
       | inl c ↦
@@ -339,14 +279,13 @@ module _ (A B : Graph) (y : ℕ) (m : Pairs) (l : Laid A B y m) where
           (u.0, omega arith, v.0 ∙ u.2)
       | inr c ↦
           let z : y ≡ x = omega arith in
-          subst (λ (w : ℕ). Ours m' w) z (t.yes refl).1
+          subst (λ (w : ℕ). Listed m'.count m'.ours w) z (t.yes refl).1
     ];
     open' = λ i. let u = l.open' i in (t.yes refl).0 u.0 u.1 u.2 u.3;
   }
 
   pub spread_no : (m' : Pairs) → Placed A B y m m' false → Spread A B m' false
   spread_no m' t = record {
-    good = t.good;
     settled = t.settled;
     yes = λ e. absurd (true≢false (sym e));
     no = λ _ i. let u = l.open' i in t.no refl u.0 u.1 u.2 u.3;
@@ -354,30 +293,29 @@ module _ (A B : Graph) (y : ℕ) (m : Pairs) (l : Laid A B y m) where
 
 pub spread_yes : (N : ℕ) (A B : Graph) (y : ℕ) (m : Pairs) → Within N A → N ≤ y → Laid A B y m → Spread A B m true
 spread_yes N A B y m wa le l = record {
-  good = l.good;
   settled = l.settled;
   yes = λ _. ((λ x k. let z = wa x k in l.placed x (omega arith) k), l.open');
   no = λ e. absurd (true≢false e);
 }
 
 -- all of both nets are paired: a renumbering
-pub alike_yes : (A B : Graph) (m : Pairs) → Spread A B m true → Covers B m true → Isomorphic A B
-alike_yes A B m s c = (
+pub alike_yes : (A B : Graph) (m : Pairs) → Ok A B m → Spread A B m true → Covers B m.count m.theirs true → Isomorphic A B
+alike_yes A B m ok s c = (
   (λ x. m.theirs (m.our_seat x)),
   (λ y. m.ours (m.their_seat y)),
-  total A B m.count m.ours m.theirs m.our_seat m.their_seat s.good s.settled (s.yes refl).0 (c.yes refl),
+  total A B m.count m.ours m.theirs m.our_seat m.their_seat ok s.settled (s.yes refl).0 (c.yes refl),
 )
 
 -- a row of B is left over: no renumbering
-pub alike_no : (A B : Graph) (m : Pairs) → Spread A B m true → Covers B m false → Isomorphic A B → ⊥
+pub alike_no : (A B : Graph) (m : Pairs) → Spread A B m true → Covers B m.count m.theirs false → Isomorphic A B → ⊥
 alike_no A B m s c i =
     let q = c.no refl in
     let e = (s.yes refl).1 i in
     let f = e.0 in
     let g = e.1 in
-    let w = e.2.fro q.0 q.1 in
-    let k = (s.yes refl).0 (g q.0) (λ z. q.1 (sym w.0 ∙ z)) in
-    q.2 k.0 k.1 (sym (e.3 k.0 k.1) ∙ ap f k.2 ∙ w.1)
+    let w = e.2.fro q.0 q.1.live in
+    let k = (s.yes refl).0 (g q.0) (λ z. q.1.live (sym w.0 ∙ z)) in
+    q.1.free k.0 k.1 (sym (e.3 k.0 k.1) ∙ ap f k.2 ∙ w.1)
 
 -- the ways of `meet` that add nothing
 module _ (A B : Graph) (m : Pairs) (x y : ℕ) (ok : Ok A B m) (l : A.kind x ≢ 0) where
@@ -387,10 +325,10 @@ module _ (A B : Graph) (m : Pairs) (x y : ℕ) (ok : Ok A B m) (l : A.kind x ≢
   -- both are in pairs: then in the same one
   pub meets_at : (i k : ℕ) → (i < m.count) × (m.ours i ≡ x) → (k < m.count) × (m.theirs k ≡ y) → Meets A B m m x y (eqb i k)
   meets_at i k p q = record {
-    yes = λ t. record { good = ok; grown = grown_refl m; new = λ a b c. absurd (let n : ⊥ = omega arith in n); pair = (i, p.0, p.1, ap m.theirs (eqb-true i k t) ∙ q.1) };
+    yes = λ t. record { grown = grown_refl m; new = λ a b c. absurd (omega arith); pair = (i, p.0, p.1, ap m.theirs (eqb-true i k t) ∙ q.1) };
     no = λ t. (
       refl,
-      λ f g j hs d. eqb-false i k t (once' A B m.count m.ours m.theirs m.our_seat m.their_seat ok i k p.0 q.0 (sym (hs i p.0) ∙ ap f p.1 ∙ d ∙ sym q.1)),
+      λ f g j hs d. eqb-false i k t (once m.count m.theirs m.their_seat (λ c h. (ok.places c h).1) i k p.0 q.0 (sym (hs i p.0) ∙ ap f p.1 ∙ d ∙ sym q.1)),
     );
   }
 
@@ -406,20 +344,7 @@ module _ (A B : Graph) (m : Pairs) (x y : ℕ) (ok : Ok A B m) (l : A.kind x ≢
   pub refutes_kind : A.kind x ≢ B.kind y → Refutes A B m x y
   refutes_kind ne f g i hs d = ne (sym (i.to x l).0 ∙ ap B.kind d)
 
--- what it says that a row is in some pair, or in none
-module _ (m : Pairs) (x : ℕ) where
-  pub our_free : (o : Option ℕ) → is_some o ≡ false → InOurs m x o → OurSeats m → Free m.count m.ours x
-  our_free None e h = h
-  our_free (Some k) e h = absurd (true≢false e)
-
-  pub our_pair : (o : Option ℕ) → is_some o ≡ true → InOurs m x o → Ours m x
-  our_pair None e h = absurd (true≢false (sym e))
-  our_pair (Some k) e h = (k, h.0, h.1)
-
-  pub their_free : (o : Option ℕ) → is_some o ≡ false → InTheirs m x o → TheirSeats m → Free m.count m.theirs x
-  their_free None e h = h
-  their_free (Some k) e h = absurd (true≢false e)
-
-  pub their_pair : (o : Option ℕ) → is_some o ≡ true → InTheirs m x o → Theirs m x
-  their_pair None e h = absurd (true≢false (sym e))
-  their_pair (Some k) e h = (k, h.0, h.1)
+-- what it says that a pair is found
+pub found_some : (n : ℕ) (l : ℕ → ℕ) (x : ℕ) (o : Option ℕ) → is_some o ≡ true → Found n l x o → Listed n l x
+found_some n l x None e h = absurd (true≢false (sym e))
+found_some n l x (Some k) e h = (k, h.0, h.1)
