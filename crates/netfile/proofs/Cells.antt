@@ -1,5 +1,5 @@
 -- The words of a cell, and how many words there are.
-use Rattle.std.proofs.Common.{◌≡◌, ℕ, suc, ◌+◌, ◌*◌, ◌≤◌, Bool, true, false, cond, eqb, [], ◌∷◌, length, get_or, Some, None, vec_items, Option, refl, ap, ◌∙◌, ap₂, add-one, arith, length-append}
+use Rattle.std.proofs.Common.{◌≡◌, ℕ, suc, ◌+◌, ◌*◌, ◌≤◌, Bool, true, false, cond, eqb, ◌∷◌, length, get_or, Some, None, Option, refl, ap, ◌∙◌, ap₂, add-one, arith, length-append}
 use Rattle.calculus.specs.Spots.{Spot, end, port, carry}
 use Rattle.calculus.specs.Nets.{Net}
 use Rattle.nets.specs.declared.table.Table.{Table}
@@ -15,14 +15,8 @@ chosen false x a e = let z : Some a ≡ None = e in let y : ◌≡◌ {A = ℕ} 
 
 pub arity_small : (t : Table) (r a : ℕ) → Some a ≡ arity_at (content t) r → a ≤ 2
 arity_small t r a e =
-    let is = chosen (eqb (bit t.occupied r) 1) (get_or (vec_items t.arities) r 0) a e in
+    let is = chosen (eqb (bit t.occupied r) 1) (get_or (content t).arities r 0) a e in
     omega (arith, t.ports r)
-
-pub cell_vacant : (A : Net) (r : ℕ) (k a : Option ℕ) → None ≡ k → [] ≡ cell_words A r k a
-cell_vacant A r k a e = ap (λ o. cell_words A r o a) e
-
-pub cell_bare : (A : Net) (r k : ℕ) (ko ao : Option ℕ) → Some k ≡ ko → None ≡ ao → cell_word k ∷ [] ≡ cell_words A r ko ao
-cell_bare A r k ko ao e f = ap₂ (cell_words A r) e f
 
 pub cell_whole : (A : Net) (r k a : ℕ) (ko ao : Option ℕ) → Some k ≡ ko → Some a ≡ ao →
     cell_word k ∷ each (a + 1) (λ j. link_of A (port r j)) ≡ cell_words A r ko ao

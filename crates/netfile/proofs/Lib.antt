@@ -3,6 +3,7 @@ pub mod Ranks
 pub mod Cells
 pub mod Stored
 pub mod Order
+pub mod Walk
 pub mod Verdicts
 pub mod Mutuals
 pub mod Single

@@ -1,5 +1,5 @@
 -- The link word of a spot of a table.
-use Rattle.std.proofs.Common.{◌≡◌, ℕ, ◌≢◌, List, [], ◌∷◌, Some, sym, ap, ◌∙◌}
+use Rattle.std.proofs.Common.{◌≡◌, ℕ, ◌≢◌, List, [], ◌∷◌, Some, None, Option, unwrap_or, sym, ap, ◌∙◌}
 use Rattle.calculus.specs.Spots.{Spot, end, port, carry}
 use Rattle.nets.specs.declared.table.Table.{Table}
 use Rattle.nets.specs.declared.spot.Spot.{Spot as Seen}
@@ -19,6 +19,11 @@ inside t (port r j) h =
 
 pub mate_inside : (t : Table) (x : Spot) (y : Seen) → Mated (net t) x (Some y) → Inside (at y)
 mate_inside t x y m = inside t (at y) (λ e. m.1 (sym e ∙ m.2))
+
+-- the mate of a spot, or the spot where it has none
+pub mated : (t : Table) (x : Seen) (o : Option Seen) → Inside (at x) → Mated (net t) (at x) o → Inside (at (unwrap_or o x)) × ((net t).mate (at x) ≡ at (unwrap_or o x))
+mated t x None i m = (i, m)
+mated t x (Some y) i m = (mate_inside t (at x) y m, m.0)
 
 -- a link word by the numbers of the cells
 pub link_is : (t : Table) (numbers : List ℕ) (x y : Spot) (w : ℕ) → Numbered t numbers → Inside y → (net t).mate x ≡ y →

@@ -1,20 +1,35 @@
 -- Links that are mutual or not, in a file whose words are all right.
-use Rattle.std.proofs.Common.{◌≡◌, ℕ, ◌+◌, ◌<◌, ◌≤◌, Bool, false, ◌≢◌, ◌⊎◌, List, get_or, Decides, sym, refl, subst, inl, inr, arith}
-use Rattle.std.proofs.lemmas.Bool.{false≢true}
+use Rattle.std.proofs.Common.{◌≡◌, ℕ, ◌+◌, ◌*◌, ◌<◌, ◌≤◌, Bool, false, leb, ◌≢◌, ◌⊎◌, ◌↔◌, IsTrue, List, get_or, Some, None, Ok, Err, Result, MatchResult, sym, refl, subst, inl, inr, arith}
+use Rattle.std.proofs.lemmas.Bool.{false≢true, cases_lt, le-leb, lt-leb}
+use Rattle.std.proofs.lemmas.Option.{none-some}
+use Rattle.std.specs.Bool.{then_some}
+use Rattle.std.specs.Result.{result_ok}
 use Rattle.refusals.specs.declared.faults.FileFault.{FileFault}
 use Rattle.refusals.specs.declared.faults.NetFault.{NetFault}
-use Rattle.calculus.specs.Spots.{Spot, end, port}
+use Rattle.calculus.specs.Spots.{Spot, port}
 use Rattle.calculus.specs.Books.{RuleBook, Laws}
 use Rattle.nets.specs.Drafts.{Before}
+use Rattle.nets.specs.Views.{at}
+use Rattle.nets.specs.declared.spot.Spot.{Spot as Seen}
+use Rattle.nets.specs.declared.spot.Spot.TheVariants.{End, Port}
 use Rattle.netfile.specs.Faults.{size, IsCell, Names, CellDue, LinkDue, BadWord, NotMutual}
 use Rattle.netfile.specs.Reading.{Headed, Mutual, DueNet}
-use Rattle.netfile.specs.Passes.{NoCell, NoLink, NamedBefore, Laid, MutualAt, FaultAt}
+use Rattle.netfile.specs.Passes.{NoCell, CellRead, NoLink, LinkRead, NamedBefore, Laid, WordOf, MutualAt, FaultAt, nth_spot}
 use Rattle.netfile.specs.declared.head.Head.{Head}
-use Rattle.netfile.proofs.Order.{same_name, same_start, same_word, earlier, cell_or_link, cases_spot, before_from_word, link_there}
+use Rattle.netfile.specs.declared.file.Cell.{Cell}
+use Rattle.netfile.proofs.Order.{same_name, same_arity, same_start, same_word, earlier, cell_or_link, cases_spot, before_from_word, link_there}
+use Rattle.netfile.proofs.Walk.{number, nth_number, number_below, number_before, due_nameable}
 use Rattle.netfile.proofs.Verdicts.{clean}
 
-pub refuted : (P : Type 0) → (P → ⊥) → Decides false P
+pub refuted : (P : Type 0) → (P → ⊥) → IsTrue false ↔ P
 refuted P no-p = (λ t. absurd (false≢true t), λ p. absurd (no-p p))
+
+-- no two spots are seen alike
+pub at_injective : (x y : Seen) → at x ≡ at y → x ≡ y
+at_injective (End a) (End b) s = cc
+at_injective (End a) (Port i j) s = cc
+at_injective (Port i j) (End b) s = cc
+at_injective (Port i j) (Port k l) s = cc
 
 pub no_cell : (K : RuleBook) (bs : List ℕ) (w : ℕ) (f : FileFault) → NoCell K bs w f → (a : ℕ) → IsCell K bs w a → ⊥
 no_cell K bs w FileFault.NoRoom none a is = none
@@ -51,24 +66,20 @@ module _ (K : RuleBook) (bs : List ℕ) (h : Head) where
       let back = (mutual_with x y names mutual_link).1 in
       subst (λ n. Names bs e c n x) (same_word K bs e c y back.1 due) back.2
 
-  -- whether the link of x is mutual, by what its target names
-  pub decides_mutual : (x y z : Spot) {v w : ℕ} (r : Bool) → Names bs e c w y → y ≢ x → LinkDue K bs e c y v → Names bs e c v z → Decides r (z ≡ x) → Decides r (Mutual K bs e c x w)
-  decides_mutual x y z {v} r names ne due back d = (
-    λ t. (y, names, ne, (v, due, subst (λ n. Names bs e c v n) (d.0 t) back)),
-    λ m. d.1 (same_name bs e c z x h.few h.small back (named_back x y names due m)),
+  -- whether the link of a spot is mutual, by what its target names
+  pub tells_mutual : (x : Seen) (y : Spot) (v w : ℕ) (r : Bool) (named : Result Seen FileFault) → Names bs e c w y → y ≢ at x → LinkDue K bs e c y v → LinkRead bs h v named →
+      MatchResult named (λ z. IsTrue r ↔ (z ≡ x)) (λ _. r ≡ false) → IsTrue r ↔ Mutual K bs e c (at x) w
+  tells_mutual x y v w r (Ok z) names ne due back tells = (
+    λ t. (y, names, ne, (v, due, subst (λ n. Names bs e c v (at n)) (tells.0 t) back)),
+    λ m. tells.1 (at_injective z x (same_name bs e c (at z) (at x) h.few h.small back (named_back (at x) y names due m))),
   )
+  tells_mutual x y v w r (Err f) names ne due back tells =
+      subst (λ b. IsTrue b ↔ Mutual K bs e c (at x) w) (sym tells)
+      (refuted (Mutual K bs e c (at x) w) (λ m. no_link bs h v f back (at x) (named_back (at x) y names due m)))
 
   pub not_bad : (x : Spot) {w : ℕ} → Mutual K bs e c x w → (y : Spot) → Names bs e c w y → (y ≡ x) ⊎ ((v : ℕ) → LinkDue K bs e c y v → Names bs e c v x → ⊥) → ⊥
   not_bad x mutual_link y names (inl s) = (mutual_with x y names mutual_link).0 s
   not_bad x mutual_link y names (inr none) = let back = (mutual_with x y names mutual_link).1 in none back.0 back.1 back.2
-
-  -- no cell has a port past 2
-  pub no_more_ports : Laws K → (i j : ℕ) → 3 ≤ j → MutualAt K bs h (port i j)
-  no_more_ports laws i j far w due = absurd (omega (arith, (laws.kinds due.4.1.0 due.1 due.4.1.2).1, due.5))
-
-  pub all_mutual : ((x : ℕ) → x < e → MutualAt K bs h (end x)) → ((i j : ℕ) → i < c → MutualAt K bs h (port i j)) → (x : Spot) → MutualAt K bs h x
-  all_mutual ends cells (end x) w due = ends x due.0 w due
-  all_mutual ends cells (port i j) w due = cells i j due.3 w due
 
   -- nothing is wrong with words that are all right
   pub no_bad_word : CellDue K bs e c c (size bs) → NamedBefore K bs h (size bs) → (u : ℕ) → BadWord K bs e c u → ⊥
@@ -113,17 +124,42 @@ module _ (K : RuleBook) (bs : List ℕ) (h : Head) where
           ),
         )
 
-    pub first_end : Headed K bs e c h.loops → (x : ℕ) (f : NetFault) → FaultAt K bs h (end x) f → ((k : ℕ) → k < x → MutualAt K bs h (end k)) → DueNet K bs f
-    first_end headed x f fault ends = fault_due headed (end x) f fault before
-      where
-        before : (y : Spot) → Before y (end x) → MutualAt K bs h y
-        before (end k) b = ends k b
-        before (port i j) b = absurd b
+    -- no cell stands there
+    pub port_absent : (i j v : ℕ) (r : Result Cell FileFault) → v ≡ get_or starts i 0 → CellRead K bs v r → None ≡ result_ok r → WordOf K bs h (port i j) None
+    port_absent i j v (Ok x) s read none = absurd (none-some x none)
+    port_absent i j v (Err f) s read none = λ w due.
+        let p = has_port i j due in
+        no_cell K bs v f read p.0 (subst (λ n. IsCell K bs n p.0) (sym s) p.1)
 
-    pub first_port : Headed K bs e c h.loops → (i j : ℕ) (f : NetFault) → FaultAt K bs h (port i j) f → ((x : ℕ) → x < e → MutualAt K bs h (end x)) → ((k l : ℕ) → k < i → MutualAt K bs h (port k l)) → ((l : ℕ) → l < j → MutualAt K bs h (port i l)) → DueNet K bs f
-    first_port headed i j f fault ends cells ports = fault_due headed (port i j) f fault before
-      where
-        before : (y : Spot) → Before y (port i j) → MutualAt K bs h y
-        before (end x) b = λ w due. ends x due.0 w due
-        before (port k l) (inl b) = cells k l b
-        before (port k l) (inr b) = subst (λ n. MutualAt K bs h (port n l)) (sym b.0) (ports l b.1)
+    -- the word of a port, unless it is past the arity
+    pub port_found : (i j v : ℕ) (r : Result Cell FileFault) (x : Cell) → i < c → v ≡ get_or starts i 0 → CellRead K bs v r → Some x ≡ result_ok r →
+        WordOf K bs h (port i j) (then_some (leb j x.arity) (v + (j + 1)))
+    port_found i j v (Err f) x less s read found = absurd (none-some x (sym found))
+    port_found i j v (Ok y) x less s read found =
+        let same : y ≡ x = cc in
+        let is : IsCell K bs v x.arity = subst (λ (z : Cell). IsCell K bs v z.arity) same (read.0, (y.kind, read.1, read.2)) in
+        elim (cases_lt x.arity j) [
+          | inl past ↦
+              subst (λ b. WordOf K bs h (port i j) (then_some b (v + (j + 1)))) (sym (lt-leb j x.arity past))
+              (λ w due.
+              let p = has_port i j due in
+              let a = same_arity K bs s is p.1 in
+              omega arith)
+          | inr there ↦
+              subst (λ b. WordOf K bs h (port i j) (then_some b (v + (j + 1)))) (sym (le-leb j x.arity there))
+              (subst (λ n. LinkDue K bs e c (port i j) (n + (j + 1))) (sym s)
+              (port_word i j x.arity less (subst (λ n. IsCell K bs n x.arity) s is) there))
+        ]
+
+    -- spot i is at fault, and each before it is mutual
+    pub nth_fault : Laws K → Headed K bs e c h.loops → (i : ℕ) (f : NetFault) → FaultAt K bs h (nth_spot e i) f → ((k : ℕ) → k < i → MutualAt K bs h (nth_spot e k)) → DueNet K bs f
+    nth_fault laws headed i f fault ones =
+        fault_due headed (nth_spot e i) f fault
+        (λ y b w due.
+        let there = due_nameable K laws bs e c y w due in
+        subst (MutualAt K bs h) (nth_number e c y there) (ones (number e y) (number_before e c i y there b)) w due)
+
+    pub all_mutual : Laws K → ((k : ℕ) → k < e + 3 * c → MutualAt K bs h (nth_spot e k)) → (x : Spot) → MutualAt K bs h x
+    all_mutual laws ones x w due =
+        let there = due_nameable K laws bs e c x w due in
+        subst (MutualAt K bs h) (nth_number e c x there) (ones (number e x) (number_below e c x there)) w due

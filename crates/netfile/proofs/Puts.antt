@@ -1,20 +1,16 @@
 -- Words put into a buffer, one after the other.
-use Rattle.std.proofs.Common.{◌≡◌, ℕ, ◌+◌, ◌*◌, ◌%◌, ◌^◌, ◌≤◌, List, [], ◌∷◌, ◌++◌, length, take, drop, sym, ap, ◌∙◌, subst, append_assoc, arith, length-append}
-use borrow.Rule.Slice.PartMut.{put_mid}
+use Rattle.std.proofs.Common.{◌≡◌, ℕ, ◌+◌, ◌*◌, ◌%◌, ◌^◌, ◌≤◌, List, [], ◌∷◌, ◌++◌, length, take, drop, refl, sym, ap, ◌∙◌, subst, append_assoc, arith, length-append, length-drop}
 use Rattle.std.proofs.lemmas.List.{take-append-drop, take_at, drop_at, drop-drop, length-take-le}
 use Rattle.netfile.specs.Words.{bytes_of, each}
-use Rattle.netfile.specs.Writing.{Put}
+use Rattle.netfile.specs.Writing.{Put, Puts}
+use Rattle.netfile.specs.declared.writer.Writer.{Writer}
 use Rattle.netfile.proofs.Words.{length_bytes_of, bytes_of-append, bytes_wrapped, each_more}
 
--- one word, by a write to four bytes
-pub put_one : (old ys : List ℕ) (s k w : ℕ) → k ≡ 4 → ys ≡ bytes_of (w ∷ []) → Put old s (w ∷ []) (put_mid s k old ys) (s + 4)
-put_one old ys s k w four e = record {
-  long = omega arith;
-  bytes =
-      ap (λ (j : ℕ). put_mid s j old ys) four
-      ∙ ap (λ bs. take s old ++ (bs ++ drop 4 (drop s old))) e
-      ∙ ap (λ rest. take s old ++ (bytes_of (w ∷ []) ++ rest)) (drop-drop 4 s old);
-}
+-- a buffer keeps its length
+pub put_length : {old new ws : List ℕ} {s n : ℕ} → s + 4 * length ws ≤ length old → Put old s ws new n → length new ≡ length old
+put_length {old} {new} {ws} {s} {n} h p =
+    let front : s ≤ length old = omega arith in
+    ap length p.bytes ∙ simp (length-append, length-take-le, length-drop, length_bytes_of) (omega (arith, p.long))
 
 pub put_none : (old : List ℕ) (s : ℕ) → Put old s [] old s
 put_none old s = record { long = omega arith; bytes = sym (take-append-drop s old) }
@@ -50,13 +46,28 @@ put_no_pieces old s f = put_none old s
 pub put_same : {old new ws : List ℕ} {s n : ℕ} → Put old s ws new n → (vs : List ℕ) → ws ≡ vs → Put old s vs new n
 put_same {old} {new} {s = s} {n = n} p vs e = subst (λ ws. Put old s ws new n) e p
 
--- a word after some words
-pub put_more : {old mid new ws : List ℕ} {s m n : ℕ} → Put old s ws mid m → s ≤ length old → (f : ℕ → List ℕ) (i : ℕ) → ws ≡ each i f → Put mid m (f i) new n → Put old s (each (i + 1) f) new n
-put_more p h f i e q = put_same (put_then h p q) (each (i + 1) f) (ap (λ xs. xs ++ f i) e ∙ sym (each_more i f))
-
 pub put_wrapped : {old new : List ℕ} {s n : ℕ} (w : ℕ) → Put old s (w % 2 ^ 32 ∷ []) new n → Put old s (w ∷ []) new n
 put_wrapped {old} {s = s} {n = n} w p =
     record { long = p.long; bytes = p.bytes ∙ ap (λ bs. take s old ++ (bs ++ drop n old)) (bytes_wrapped w) }
+
+-- the same of a writer
+pub puts_length : {old new : Writer} {ws : List ℕ} → old.next + 4 * length ws ≤ length old.out.now → Puts old ws new → length new.out.now ≡ length old.out.now
+puts_length fits p = put_length fits p.put
+
+pub puts_wrapped : {old new : Writer} (w : ℕ) → Puts old (w % 2 ^ 32 ∷ []) new → Puts old (w ∷ []) new
+puts_wrapped w p = record { same_reference = p.same_reference; put = put_wrapped w p.put }
+
+pub puts_no_pieces : (w : Writer) (f : ℕ → List ℕ) → Puts w (each 0 f) w
+puts_no_pieces w f = record { same_reference = refl; put = put_no_pieces w.out.now w.next f }
+
+pub puts_same : {old new : Writer} {ws : List ℕ} → Puts old ws new → (vs : List ℕ) → ws ≡ vs → Puts old vs new
+puts_same p vs e = record { same_reference = p.same_reference; put = put_same p.put vs e }
+
+pub puts_then : {old mid new : Writer} {vs ws : List ℕ} → old.next ≤ length old.out.now → Puts old vs mid → Puts mid ws new → Puts old (vs ++ ws) new
+puts_then fits p q = record { same_reference = q.same_reference ∙ p.same_reference; put = put_then fits p.put q.put }
+
+pub puts_more : {old mid new : Writer} (f : ℕ → List ℕ) (i : ℕ) → old.next ≤ length old.out.now → Puts old (each i f) mid → Puts mid (f i) new → Puts old (each (i + 1) f) new
+puts_more f i fits p q = puts_same (puts_then fits p q) (each (i + 1) f) (sym (each_more i f))
 
 -- what stands at the front of the buffer
 module _ {old ws new : List ℕ} {n : ℕ} (p : Put old 0 ws new n) where

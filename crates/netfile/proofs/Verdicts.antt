@@ -1,11 +1,14 @@
 -- Which fault is due, from how far the words of a file were found right.
-use Rattle.std.proofs.Common.{◌≡◌, ℕ, ◌+◌, ◌-◌, ◌*◌, ◌%◌, ◌<◌, ◌≤◌, List, length, get_or, set, Ok, Err, sym, ap, ◌∙◌, subst, subst₂, inl, inr, add-one, arith}
-use Rattle.std.proofs.lemmas.List.{get_or-set_same, get_or-set_other, length-set}
+use Rattle.std.proofs.Common.{◌≡◌, ℕ, ◌+◌, ◌-◌, ◌*◌, ◌%◌, ◌<◌, ◌≤◌, List, ◌++◌, length, get_or, set, Ok, Err, Some, None, Option, refl, sym, ap, ◌∙◌, subst, subst₂, inl, inr, add-one, arith}
+use Rattle.std.specs.Option.{ok_or}
+use Rattle.std.proofs.lemmas.List.{get_or_append_left, get_or-set_same, get_or-set_other, length-set}
 use Rattle.std.proofs.lemmas.Bool.{cases_order, cases_lt, cases_eq}
 use Rattle.refusals.specs.declared.faults.FileFault.{FileFault}
 use Rattle.calculus.specs.Spots.{Spot, end, port}
 use Rattle.calculus.specs.Books.{RuleBook, Laws}
-use Rattle.netfile.specs.Faults.{BadLength, size, CellDue, LinkDue, BadCell, BadLink, BadEnd, BadWord, First}
+use Rattle.netfile.specs.Words.{header}
+use Rattle.netfile.specs.Faults.{BadLength, BadHeader, size, CellDue, LinkDue, BadCell, BadLink, BadEnd, BadWord, First}
+use Rattle.netfile.specs.Decoding.{WordAt, HeaderOf, LoopsOf, KindOf}
 use Rattle.netfile.specs.Reading.{Headed, DueFile}
 use Rattle.netfile.specs.Passes.{NoCell, NoLink, NameAll, StopsIn, CellChecked, NamedBefore, Laid}
 use Rattle.netfile.specs.declared.head.Head.{Head}
@@ -13,6 +16,33 @@ use Rattle.netfile.proofs.Order.{from_ends, same_start, earlier, cell_or_link}
 
 omega_size : {m n : ℕ} → m ≤ n → n ≤ m → m ≡ n
 omega_size p q = omega arith
+
+-- what `ok_or` refuses with
+pub is_fault : {T E : Type 0} (o : Option T) (e f : E) → Err f ≡ ok_or o e → o ≡ None → f ≡ e
+is_fault None e f h n = cc
+is_fault (Some x) e f h n = cc
+
+-- the word is no cell word of the book, which has no kind past 63
+pub no_kind : (K : RuleBook) → Laws K → (bs : List ℕ) (at w : ℕ) → WordAt bs at (Some w) → KindOf w None → NoCell K bs at (FileFault.BadCell at)
+no_kind K laws bs at w here none = (
+  refl,
+  here.0,
+  λ a is.
+      let few : is.1.0 < 64 = omega (arith, ((laws.kinds is.1.0 a is.1.2).0)) in
+      none is.1.0 few (here.1 ∙ is.1.1),
+)
+
+-- the first of the words 0 and 1 that is wrong
+pub bad_zeroth : (K : RuleBook) (bs : List ℕ) (number w : ℕ) → number ≡ K.number → WordAt bs 0 (Some w) → HeaderOf number w None → BadHeader K bs 0
+bad_zeroth K bs number w is here none =
+    BadHeader.zeroth (λ e c h. none e c h.ends h.cells (here.1 ∙ h.is ∙ ap (λ m. header m e c) (sym is)))
+
+pub bad_first : (K : RuleBook) (bs : List ℕ) (number v w e c : ℕ) → number ≡ K.number → WordAt bs 0 (Some v) → WordAt bs 1 (Some w) →
+    HeaderOf number v (Some (e, c)) → LoopsOf w None → BadHeader K bs 1
+bad_first K bs number v w e c is here there head none =
+    BadHeader.first
+    (record { is = sym here.1 ∙ head.0 ∙ ap (λ m. header m e c) is; ends = head.1; cells = head.2 })
+    (λ l h. none l h.1 (there.1 ∙ h.0))
 
 pub right-length : (bs : List ℕ) → 8 ≤ length bs → length bs % 4 ≡ 0 → BadLength bs → ⊥
 right-length bs long whole (inl short) = omega arith
@@ -68,7 +98,7 @@ module _ (K : RuleBook) (bs : List ℕ) (h : Head) where
     pub there : w ≤ size bs
     pub near : w ≤ 66 + 4 * i
     pub begins : (k : ℕ) → k < i → CellDue K bs e c k (get_or starts k 0)
-    pub wide : length starts ≡ 1024
+    pub wide : length starts ≡ c
 
   module _ (headed : Headed K bs e c h.loops) where
     pub cell_fault : {i w : ℕ} (f : FileFault) → CellDue K bs e c i w → i < c → w ≤ size bs → NamedBefore K bs h w → NoCell K bs w f → DueFile K bs f
@@ -115,7 +145,7 @@ module _ (K : RuleBook) (bs : List ℕ) (h : Head) where
     ends_fault f (w, low, high, named, no_link) =
         link_fault (end (w - 2)) f CellDue.first (omega arith) (omega arith) (omega arith, omega arith) (named_size two_words low named) (named_ends (omega arith) named) no_link
 
-    pub reached_none : (starts : List ℕ) → length starts ≡ 1024 → NameAll bs h 2 (2 + e) → Reached 0 (2 + e) starts
+    pub reached_none : (starts : List ℕ) → length starts ≡ c → NameAll bs h 2 (2 + e) → Reached 0 (2 + e) starts
     reached_none starts wide named =
         record {
           due = CellDue.first;
@@ -147,11 +177,13 @@ module _ (K : RuleBook) (bs : List ℕ) (h : Head) where
           wide = length-set starts i w ∙ r.wide;
         }
 
-    pub reached_all : {w : ℕ} {starts : List ℕ} → Reached c w starts → size bs ≤ w → Laid K bs h starts
-    reached_all r none =
+    -- the starts of all cells, and what else is in the list
+    pub reached_all : {w : ℕ} {starts : List ℕ} (rest : List ℕ) → Reached c w starts → size bs ≤ w → Laid K bs h (starts ++ rest)
+    reached_all {starts = starts} rest r none =
         let all = omega_size r.there none in
         record {
           whole = subst (CellDue K bs e c c) all r.due;
           named = subst (NamedBefore K bs h) all r.named;
-          begins = r.begins;
+          begins = λ i less.
+              subst (CellDue K bs e c i) (sym (get_or_append_left starts rest 0 i (omega (arith, r.wide)))) (r.begins i less);
         }

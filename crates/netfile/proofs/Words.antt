@@ -1,10 +1,12 @@
 -- Laws of words, of their bytes, and of lists made piece by piece.
-use Rattle.std.proofs.Common.{◌≡◌, ℕ, zero, suc, ◌+◌, ◌*◌, ◌/◌, ◌%◌, ◌^◌, ◌<◌, ◌≤◌, ◌≢◌, List, [], ◌∷◌, ◌++◌, length, get_or, sym, refl, ap, ◌∙◌, inl, inr, append_assoc, add-zero, add-suc, suc-mul, add-one, arith, length-append}
+use Rattle.std.proofs.Common.{◌≡◌, ℕ, zero, suc, ◌+◌, ◌*◌, ◌/◌, ◌%◌, ◌^◌, ◌<◌, ◌≤◌, ◌≢◌, List, [], ◌∷◌, ◌++◌, length, get_or, take, drop, sym, refl, ap, ◌∙◌, inl, inr, append_assoc, add-zero, add-suc, suc-mul, zero-mul, add-one, arith, length-append}
 use Rattle.std.proofs.lemmas.Nat.{shr-shr, shr_split, field_of}
-use Rattle.std.proofs.lemmas.List.{append-nil, get_or_append_left, get_or-append-add, ext_get_or}
+use Rattle.std.specs.Simd.{first_chunks}
+use Rattle.std.proofs.lemmas.List.{drop-drop, get_or-take, get_or-drop, append-nil, get_or_append_left, get_or-append-add, ext_get_or}
 use Rattle.std.proofs.lemmas.Bool.{cases_eq}
 use Rattle.calculus.specs.Spots.{Spot, end, port}
 pub use Rattle.netfile.specs.Decoding.{Fits}
+use Rattle.netfile.specs.Faults.{size}
 use Rattle.netfile.specs.Words.{header, loops_word, cell_word, link_word, word, bytes_of, each}
 
 -- each entry is below n
@@ -145,9 +147,6 @@ word_past a b c d bs i =
     let s = past_four a b c d bs (4 * suc i + 3) (4 * i + 3) (omega arith) in
     cc
 
-pub word_below : (bs : List ℕ) → Below 256 bs → (i : ℕ) → word bs i < 2 ^ 32
-word_below bs h i = omega (arith, h (4 * i), h (4 * i + 1), h (4 * i + 2), h (4 * i + 3))
-
 joins : (w x y z a b c d : ℕ) → x * 256 + d ≡ w → y * 256 + c ≡ x → z * 256 + b ≡ y → z ≡ a → a * 2 ^ 24 + b * 2 ^ 16 + c * 2 ^ 8 + d ≡ w
 joins w x y z a b c d p q r s = omega arith
 
@@ -201,20 +200,6 @@ bytes_of_words (w ∷ ws) (a ∷ b ∷ c ∷ d ∷ bs) h l e =
     let rest = bytes_of_words ws bs (λ i. h (suc (suc (suc (suc i))))) (omega arith) (λ i m. e (suc i) (omega arith) ∙ word_past a b c d bs i) in
     cc
 
--- two lists of bytes with the same words are equal
-pub same_bytes : (bs cs : List ℕ) (n : ℕ) → Below 256 bs → Below 256 cs → length bs ≡ 4 * n → length cs ≡ 4 * n → ((i : ℕ) → i < n → word bs i ≡ word cs i) → bs ≡ cs
-same_bytes bs cs n p q k l e =
-    let m = length_each_one n (word bs) in
-    let g = get_d_each_one n (word bs) in
-    sym (bytes_of_words (each n (λ i. word bs i ∷ [])) bs p (omega arith) (λ i h. g i (omega arith)))
-    ∙ bytes_of_words (each n (λ i. word bs i ∷ [])) cs q (omega arith) (λ i h. g i (omega arith) ∙ e i (omega arith))
-
--- the words of some bytes have these bytes
-pub bytes_of_each_word : (bs : List ℕ) (n : ℕ) → Below 256 bs → length bs ≡ 4 * n → bytes_of (each n (λ i. word bs i ∷ [])) ≡ bs
-bytes_of_each_word bs n h l =
-    let m = length_each_one n (word bs) in
-    bytes_of_words (each n (λ i. word bs i ∷ [])) bs h (omega arith) (λ i b. get_d_each_one n (word bs) i (omega arith))
-
 pub bytes_of_injective : (vs ws : List ℕ) → Below (2 ^ 32) vs → Below (2 ^ 32) ws → bytes_of vs ≡ bytes_of ws → vs ≡ ws
 bytes_of_injective vs ws p q e =
     let long : length vs ≡ length ws = omega (arith, length_bytes_of vs, length_bytes_of ws, ap length e) in
@@ -237,13 +222,6 @@ loops_word_injective k l h = omega arith
 pub header_injective : (b c e f m n : ℕ) → e < 256 → f < 256 → m < 2 ^ 16 → n < 2 ^ 16 → header b e m ≡ header c f n → (b ≡ c) × (e ≡ f) × (m ≡ n)
 header_injective b c e f m n p q r s h = (omega arith, omega arith, omega arith)
 
--- a link word to an end has bit 29, one to a port has not
-pub end_bit : (e : ℕ) → e < 2 ^ 16 → link_word (end e) / 2 ^ 29 ≡ 7
-end_bit e h = omega arith
-
-pub port_bit : (r j : ℕ) → r < 2 ^ 14 → j < 4 → link_word (port r j) / 2 ^ 29 ≡ 6
-port_bit r j h k = omega arith
-
 -- The kind of a word, bits 31 and 30, tells the four apart; no word needs more than 32 bits.
 
 pub header_kind : (b e c : ℕ) → b < 64 → e < 256 → c < 2 ^ 16 → header b e c < 2 ^ 30
@@ -261,3 +239,26 @@ link_word_kind (port r j) h = omega arith
 
 pub cell_not_link : (k : ℕ) (x : Spot) → k < 64 → Fits x → cell_word k ≢ link_word x
 cell_not_link k x h f = let a = cell_word_kind k h in let b = link_word_kind x f in omega arith
+
+-- Words as chunks of four bytes.
+
+pub first_chunks_at : (n k i : ℕ) (xs d : List ℕ) → i < k → get_or (first_chunks n k xs) i d ≡ take n (drop (i * n) xs)
+first_chunks_at n zero i xs d h = absurd (omega arith)
+first_chunks_at n (suc k) zero xs d h = ap (λ (m : ℕ). take n (drop m xs)) (sym (zero-mul n))
+first_chunks_at n (suc k) (suc i) xs d h =
+    first_chunks_at n k i (drop n xs) d (omega arith)
+    ∙ ap (take n) (drop-drop (i * n) n xs ∙ ap (λ (m : ℕ). drop m xs) (omega (arith, suc-mul i n)))
+
+pub word_of_chunk : (bs w : List ℕ) (i : ℕ) → i < size bs → w ≡ get_or (first_chunks 4 (size bs) bs) i w →
+    get_or w 0 0 * 2 ^ 24 + get_or w 1 0 * 2 ^ 16 + get_or w 2 0 * 2 ^ 8 + get_or w 3 0 ≡ word bs i
+word_of_chunk bs w i h e =
+    let at : (j n : ℕ) → j < 4 → i * 4 + j ≡ n → get_or w j 0 ≡ get_or bs n 0 = λ j n l s.
+    ap (λ v. get_or v j 0) (e ∙ first_chunks_at 4 (size bs) i bs w h)
+    ∙ get_or-take 4 (drop (i * 4) bs) j 0 l
+    ∙ get_or-drop (i * 4) bs j 0
+    ∙ ap (λ (m : ℕ). get_or bs m 0) s in
+    let p = at 0 (4 * i) (omega arith) (omega arith) in
+    let q = at 1 (4 * i + 1) (omega arith) (omega arith) in
+    let r = at 2 (4 * i + 2) (omega arith) (omega arith) in
+    let s = at 3 (4 * i + 3) (omega arith) (omega arith) in
+    cc

@@ -4,6 +4,7 @@ pub mod Faults
 pub mod Decoding
 pub mod Reading
 pub mod Passes
+pub mod Layout
 pub mod Refusals
 pub mod Building
 pub mod Writing

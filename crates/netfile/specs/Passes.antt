@@ -1,8 +1,8 @@
 -- What each part of a survey answers: what private functions tell each other; no public contract cites it. Assumes nothing.
-use Rattle.std.specs.Prelude.{◌≡◌, ℕ, ◌+◌, ◌<◌, ◌≤◌, ◌⊎◌, List, Some, None, Ok, Err, Option, Result, slice_index}
+use Rattle.std.specs.Prelude.{◌≡◌, ℕ, ◌+◌, ◌-◌, ◌/◌, ◌%◌, ◌<◌, ◌≤◌, ◌⊎◌, List, Some, None, Ok, Err, Option, Result, slice_index, nat_lt, if◌then◌else◌}
 use Rattle.refusals.specs.declared.faults.FileFault.{FileFault}
 use Rattle.refusals.specs.declared.faults.NetFault.{NetFault}
-use Rattle.calculus.specs.Spots.{Spot, port}
+use Rattle.calculus.specs.Spots.{Spot, end, port}
 use Rattle.calculus.specs.Books.{RuleBook}
 use Rattle.nets.specs.Views.{at}
 use Rattle.nets.specs.declared.spot.Spot.{Spot as Seen}
@@ -10,7 +10,7 @@ use Rattle.netfile.specs.Words.{cell_word, word}
 use Rattle.netfile.specs.Faults.{size, IsCell, Names, CellDue, LinkDue}
 use Rattle.netfile.specs.Reading.{Headed, Mutual, DueFile, DueNet}
 use Rattle.netfile.specs.declared.head.Head.{Head}
-use Rattle.netfile.specs.declared.parts.Cell.{Cell}
+use Rattle.netfile.specs.declared.file.Cell.{Cell}
 
 -- the first two words
 abbrev pub HeadRead : RuleBook → List ℕ → Result Head FileFault → Type 0
@@ -93,12 +93,11 @@ module _ (K : RuleBook) (bs : List ℕ) (h : Head) where
   SpotChecked x (Ok u) = MutualAt x
   SpotChecked x (Err f) = FaultAt x f
 
-  -- the links of a cell: all are mutual, or the first that is not
-  abbrev pub PortsChecked : ℕ → Result Unit NetFault → Type 0
-  PortsChecked i (Ok u) = (j : ℕ) → MutualAt (port i j)
-  PortsChecked i (Err f) = (j : ℕ) × FaultAt (port i j) f × ((k : ℕ) → k < j → MutualAt (port i k))
-
   -- all links
   abbrev pub LinksChecked : Result Unit NetFault → Type 0
   LinksChecked (Ok u) = (x : Spot) → MutualAt x
   LinksChecked (Err f) = DueNet K bs f
+
+-- spot i in the order of their words, where there are e ends
+abbrev pub nth_spot : ℕ → ℕ → Spot
+nth_spot e i = if nat_lt i e then end i else port ((i - e) / 3) ((i - e) % 3)

@@ -8,6 +8,7 @@ use Rattle.calculus.specs.Nets.{Net}
 use Rattle.calculus.specs.Alike.{Alike}
 use Rattle.nets.specs.declared.table.Table.{Table}
 use Rattle.nets.specs.Meaning.{net, content, arity_at, cells_below, OfBook}
+use Rattle.netfile.specs.declared.writer.Writer.{Writer}
 use Rattle.netfile.specs.Words.{bytes_of, each}
 use Rattle.netfile.specs.Files.{link_of, cell_words, words, file, Storable}
 
@@ -40,6 +41,11 @@ Tells K t = OfBook K t → (B : Net) → Storable K B → file K B ≡ file K (n
 pub record Put (old : List ℕ) (start : ℕ) (ws new : List ℕ) (next : ℕ) : Type 0 where
   pub long : next ≡ start + 4 * length ws
   pub bytes : new ≡ take start old ++ (bytes_of ws ++ drop next old)
+
+-- a writer has put the words ws into its buffer
+pub record Puts (old : Writer) (ws : List ℕ) (new : Writer) : Type 0 where
+  pub same_reference : new.out.ghost_name ≡ old.out.ghost_name
+  pub put : Put old.out.now old.next ws new.out.now new.next
 
 -- the link words of a table's ends
 abbrev pub end_words : Table → List ℕ

@@ -3,10 +3,11 @@
 
 mod build;
 mod decode;
+mod file;
 pub mod head;
 pub mod laws;
-mod mutual;
-mod parts;
+mod layout;
+mod numbering;
 pub mod reader;
 pub mod survey;
 pub mod writer;

@@ -4,7 +4,6 @@ ghost use Rattle.netfile.specs.Reading.{Answered, OneAnswer, read_fault};
 ghost use Rattle.netfile.specs.Refusals.{read_refusal};
 ghost use Rattle.netfile.specs.declared.reader.ReadFault.TheVariants.{Memory};
 
-use crate::build::{add_cells, name_links};
 use crate::survey::{SurveyFault, survey_file};
 use books::book::Book;
 use nets::draft::Draft;
@@ -62,10 +61,11 @@ pub fn read<B: Book>(heap: Global, book: &B, bytes: &[u8]) -> Result<Table, Read
 {
     let survey = survey_file(book, bytes)?;
     let mut draft = Draft::new(heap, survey.head.ends, survey.head.loops)?;
-    add_cells(book, bytes, &survey, &mut draft);
-    name_links(book, bytes, &survey, &mut draft);
-    match draft.seal() {
-        Ok(table) => Ok(table),
-        Err(_) => unreachable(),
-    }
+    let layout = survey.layout(book, bytes);
+    layout.add_cells(&mut draft);
+    layout.name_links(&mut draft);
+    let Ok(table) = draft.seal() else {
+        unreachable!()
+    };
+    Ok(table)
 }

@@ -1,24 +1,39 @@
 // A survey of a whole file: every check, and no allocation.
-ghost use Rattle.std.specs.Prelude.{◌≡◌, ◌^◌, ◌<◌};
+ghost use Rattle.std.specs.Prelude.{◌≡◌, take};
 ghost use Rattle.netfile.specs.Reading.{Headed, Surveyed, OneAnswer};
-ghost use Rattle.netfile.specs.Passes.{LinksRead, CellChecked, WordsRead};
+ghost use Rattle.netfile.specs.Passes.{Laid};
 ghost use Rattle.netfile.specs.Refusals.{survey_refusal};
 ghost use Rattle.netfile.specs.declared.survey.SurveyFault.TheVariants.{File, Net};
 
-use crate::decode::word_at;
+use crate::file::File;
 use crate::head::Head;
-use crate::mutual::check_mutual;
-use crate::parts::{cell_at, link_at, read_head};
+use crate::layout::Layout;
 use books::book::Book;
 use refusals::fault::Fault;
 use refusals::faults::{FileFault, NetFault};
 use refusals::refusal::Refusal;
 
 /// A file with which nothing is wrong: its numbers, and the word at which each cell begins.
+// An array, of which the first `head.cells` entries are told, as no `ArrayVec` is `Copy`.
 #[derive(Clone, Copy)]
 pub struct Survey {
     pub head: Head,
     pub starts: [u16; 1024],
+}
+
+impl Survey {
+    /// The file as surveyed.
+    pub(crate) fn layout<'a, B: Book>(&'a self, book: &'a B, bytes: &'a [u8]) -> Layout<'a, B>
+        requires headed { Headed (B.meaning book.now) bytes.now self.now.head.ends self.now.head.cells self.now.head.loops }
+        requires laid { Laid (B.meaning book.now) bytes.now self.now.head self.now.starts }
+        ensures { result ≡ record { book = book.now; bytes = bytes.now; head = self.now.head; starts = take self.now.head.cells self.now.starts } }
+    {
+        let head = self.head;
+        Layout {
+            file: File { book, bytes, head },
+            starts: &self.starts[..head.cells as usize],
+        }
+    }
 }
 
 /// What is wrong with a file: a fault of the file's words, or one of its links.
@@ -61,48 +76,9 @@ pub fn survey_file<B: Book>(book: &B, bytes: &[u8]) -> Result<Survey, SurveyFaul
     ensures answer { Surveyed (B.meaning book.now) bytes.now result }
     ensures one { OneAnswer (B.meaning book.now) bytes.now }
 {
-    let head = read_head(book, bytes)?;
-    let starts = find_cells(book, bytes, head)?;
+    let head = Head::read(book, bytes)?;
+    let starts = File { book, bytes, head }.find_cells()?;
     let survey = Survey { head, starts };
-    check_mutual(book, bytes, &survey)?;
+    survey.layout(book, bytes).check()?;
     Ok(survey)
-}
-
-/// Looks at the link words from one word to before another one.
-fn check_links(bytes: &[u8], head: Head, from: u32, to: u32) -> Result<(), FileFault>
-    ensures { LinksRead bytes.now head from to result }
-{
-    for at in from..to {
-        link_at(bytes, head, at)?;
-    }
-    Ok(())
-}
-
-/// Looks at the cell at a word and at its links, and answers the word after them.
-fn check_cell<B: Book>(book: &B, bytes: &[u8], head: Head, at: u32) -> Result<u32, FileFault>
-    requires { at < 2 ^ 16 }
-    ensures { CellChecked (B.meaning book.now) bytes.now head at result }
-{
-    let cell = cell_at(book, bytes, at)?;
-    let next = at + (cell.arity as u32 + 2);
-    check_links(bytes, head, at + 1, next)?;
-    Ok(next)
-}
-
-/// Looks at every word after the first two, and answers the word at which each cell begins.
-fn find_cells<B: Book>(book: &B, bytes: &[u8], head: Head) -> Result<[u16; 1024], FileFault>
-    requires { Headed (B.meaning book.now) bytes.now head.ends head.cells head.loops }
-    ensures { WordsRead (B.meaning book.now) bytes.now head result }
-{
-    let mut at = 2 + head.ends as u32;
-    check_links(bytes, head, 2, at)?;
-    let mut starts = [0; 1024];
-    for i in 0..head.cells as usize {
-        starts[i] = at as u16;
-        at = check_cell(book, bytes, head, at)?;
-    }
-    match word_at(bytes, at) {
-        Some(_) => Err(FileFault::Words(at)),
-        None => Ok(starts),
-    }
 }

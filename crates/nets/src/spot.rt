@@ -1,5 +1,5 @@
 /// Where a wire can end: an end of the net, or a port of the cell in a place. Port 0 is the principal port.
-#[derive(Clone, Copy)]
+#[derive(Clone, Copy, PartialEq, Eq, Debug)]
 pub enum Spot {
     End(u16),
     Port(u16, u8),
