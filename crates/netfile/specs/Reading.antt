@@ -2,6 +2,7 @@
 use Rattle.std.specs.Prelude.{◌≡◌, ℕ, ◌<◌, ◌≢◌, List, Ok, Err, Result, slice_index}
 use Rattle.refusals.specs.declared.faults.FileFault.{FileFault}
 use Rattle.refusals.specs.declared.faults.NetFault.{NetFault}
+use Rattle.refusals.specs.declared.memory.OrMemory.{OrMemory}
 use Rattle.calculus.specs.Spots.{Spot}
 use Rattle.calculus.specs.Books.{RuleBook}
 use Rattle.calculus.specs.Nets.{Net}
@@ -9,7 +10,6 @@ use Rattle.netfile.specs.Faults.{BadLength, BadHeader, Header, Loops, size, Name
 use Rattle.netfile.specs.Files.{file, Storable, Packed}
 use Rattle.nets.specs.declared.table.Table.{Table}
 use Rattle.nets.specs.Meaning.{net, OfBook}
-use Rattle.netfile.specs.declared.reader.ReadFault.{ReadFault}
 use Rattle.netfile.specs.declared.survey.Survey.{Survey}
 use Rattle.netfile.specs.declared.survey.SurveyFault.{SurveyFault}
 
@@ -74,13 +74,7 @@ module _ (K : RuleBook) (bs : List ℕ) where
     pub packed : Packed (net t)
 
   -- what reading answers: such a table, or the fault that is due, or that memory is wanting
-  abbrev pub Answered : Result Table ReadFault → Type 0
+  abbrev pub Answered : Result Table (OrMemory SurveyFault) → Type 0
   Answered (Ok t) = ReadAs t
-  Answered (Err (ReadFault.File f)) = Due (SurveyFault.File f)
-  Answered (Err (ReadFault.Net f)) = Due (SurveyFault.Net f)
-  Answered (Err ReadFault.Memory) = Unit {0}
-
--- a survey's fault as one of the reader
-abbrev pub read_fault : SurveyFault → ReadFault
-read_fault (SurveyFault.File f) = ReadFault.File f
-read_fault (SurveyFault.Net f) = ReadFault.Net f
+  Answered (Err (OrMemory.Fault f)) = Due f
+  Answered (Err OrMemory.Memory) = Unit {0}
