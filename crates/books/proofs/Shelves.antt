@@ -1,15 +1,16 @@
--- A book's tables and the positions of its rules: that they answer as the book does, by one computed test. Assumes nothing.
-use Rattle.std.proofs.Common.{◌≡◌, ℕ, zero, suc, ◌<◌, ◌≤◌, Bool, true, false, not, ◌&&◌, ◌||◌, eqb, ltb, ◌⊎◌, List, [], ◌∷◌, map, length, get_or, take, Some, None, Option, refl, ap, subst, inl, inr, arith}
+-- The tables of a book's rules: that they answer as the book does, by one computed test. Assumes nothing.
+use Rattle.std.proofs.Common.{◌≡◌, ℕ, suc, ◌≤◌, Bool, true, false, not, ◌&&◌, ◌||◌, eqb, ltb, ◌⊎◌, List, [], ◌∷◌, map, length, Some, None, Option, Bor, refl, ap, inl, inr, arith}
 use Rattle.std.specs.List.{slice_get}
-use Rattle.std.proofs.lemmas.Option.{slice_get-get_or, slice_get_past}
+use Rattle.std.proofs.lemmas.Option.{slice_get_past}
 use Rattle.std.proofs.lemmas.Bool.{and_parts, and_from, or_cases, or_left, or_right, both_ways, not-true, eqb-true, eq-eqb, ltb-true, cases_lt}
 use Rattle.books.specs.declared.table.RuleTable.{RuleTable}
-use Rattle.books.specs.Tables.{wires_of, Depicts}
+use Rattle.books.specs.Tables.{kinds_of, arities_of, wires_of, Depicts}
 use Rattle.books.specs.Answers.{Meant, Answers}
-use Rattle.books.specs.Shelves.{Looked}
+use Rattle.books.specs.Shelves.{rule_at, Looked}
 use Rattle.calculus.specs.Books.{RulePort, Rule, RuleBook}
+use Rattle.calculus.proofs.Places.{nth_some}
 use Rattle.calculus.proofs.Lawful.{same?, same_port}
-use Rattle.calculus.proofs.Tests.{every?, every_at, below?, below_at, pass?, passed}
+use Rattle.calculus.proofs.Tests.{every?, every_at, some?, below?, below_at, pass?, passed}
 
 -- ── two lists side by side ──
 
@@ -19,22 +20,6 @@ both? f [] [] = true
 both? f [] (y ∷ ys) = false
 both? f (x ∷ xs) [] = false
 both? f (x ∷ xs) (y ∷ ys) = f x y && both? f xs ys
-
-both_at : {X Y : Type 0} (f : X → Y → Bool) (xs : List X) (ys : List Y) → both? f xs ys ≡ true → (i : ℕ) (y : Y) → slice_get ys i ≡ Some y → (x : X) × (slice_get xs i ≡ Some x) × (f x y ≡ true)
-both_at f [] [] t i y e = let z : ◌≡◌ {A = ℕ} 0 1 = cc in absurd (omega arith)
-both_at f [] (v ∷ vs) t i y e = absurd (both_ways false refl t)
-both_at f (u ∷ us) [] t i y e = absurd (both_ways false refl t)
-both_at f (u ∷ us) (v ∷ vs) t zero y e =
-    let s : v ≡ y = cc in
-    (u, refl, subst (λ w. f u w ≡ true) s (and_parts (f u v) (both? f us vs) t).0)
-both_at f (u ∷ us) (v ∷ vs) t (suc i) y e = both_at f us vs (and_parts (f u v) (both? f us vs) t).1 i y e
-
-both_none : {X Y : Type 0} (f : X → Y → Bool) (xs : List X) (ys : List Y) → both? f xs ys ≡ true → (i : ℕ) → slice_get ys i ≡ None → slice_get xs i ≡ None
-both_none f [] [] t i e = refl
-both_none f [] (v ∷ vs) t i e = absurd (both_ways false refl t)
-both_none f (u ∷ us) [] t i e = absurd (both_ways false refl t)
-both_none f (u ∷ us) (v ∷ vs) t zero e = let z : ◌≡◌ {A = ℕ} 0 1 = cc in absurd (omega arith)
-both_none f (u ∷ us) (v ∷ vs) t (suc i) e = both_none f us vs (and_parts (f u v) (both? f us vs) t).1 i e
 
 both_same : {X : Type 0} (f : X → X → Bool) → ((x y : X) → f x y ≡ true → x ≡ y) → (xs ys : List X) → both? f xs ys ≡ true → xs ≡ ys
 both_same f sound [] [] t = refl
@@ -75,10 +60,8 @@ module _ (K : RuleBook) where
   of_table r w =
       eqb r.left w.left
       ∷ eqb r.right w.right
-      ∷ eqb r.cells (length w.cells)
-      ∷ both? eqb (take r.cells r.kinds) w.cells
-      ∷ both? arity? (map {B = Option ℕ} Some (take r.cells r.arities)) (map K.arity w.cells)
-      ∷ eqb r.wires (length w.wires)
+      ∷ both? eqb (kinds_of r) w.cells
+      ∷ both? arity? (map {B = Option ℕ} Some (arities_of r)) (map K.arity w.cells)
       ∷ both? wire? (wires_of r) w.wires
       ∷ []
 
@@ -87,14 +70,12 @@ module _ (K : RuleBook) where
       record {
         left = eqb-true r.left w.left (passed (of_table r w) t 0 _ refl);
         right = eqb-true r.right w.right (passed (of_table r w) t 1 _ refl);
-        cells = eqb-true r.cells (length w.cells) (passed (of_table r w) t 2 _ refl);
-        kinds = both_same eqb eqb-true (take r.cells r.kinds) w.cells (passed (of_table r w) t 3 _ refl);
-        arities = both_same arity? same_arity (map {B = Option ℕ} Some (take r.cells r.arities)) (map K.arity w.cells) (passed (of_table r w) t 4 _ refl);
-        wires = eqb-true r.wires (length w.wires) (passed (of_table r w) t 5 _ refl);
-        joins = both_same wire? same_wire (wires_of r) w.wires (passed (of_table r w) t 6 _ refl);
+        kinds = both_same eqb eqb-true (kinds_of r) w.cells (passed (of_table r w) t 2 _ refl);
+        arities = both_same arity? same_arity (map {B = Option ℕ} Some (arities_of r)) (map K.arity w.cells) (passed (of_table r w) t 3 _ refl);
+        wires = both_same wire? same_wire (wires_of r) w.wires (passed (of_table r w) t 4 _ refl);
       }
 
--- ── a book's tables and positions ──
+-- ── a book's tables ──
 
 -- the rule is for the two kinds
 abbrev meant? : Rule → ℕ → ℕ → Bool
@@ -119,73 +100,65 @@ at_meant w a b (inr h) =
     or_right (eqb w.left a && eqb w.right b) (eqb w.left b && eqb w.right a)
     (and_from (eqb w.left b) (eqb w.right a) (eq-eqb w.left b h.0) (eq-eqb w.right a h.1))
 
--- the rules `ws` have this one for the kinds a and b, or none
-abbrev right? : List Rule → ℕ → ℕ → Option Rule → Bool
-right? ws a b None = every? (λ w. not (meant? w a b)) ws
-right? ws a b (Some w) = meant? w a b
+some_at : {X : Type 0} (f : X → Bool) (xs : List X) → some? f xs ≡ true → (i : ℕ) × (x : X) × (slice_get xs i ≡ Some x) × (f x ≡ true)
+some_at f [] t = absurd (both_ways false refl t)
+some_at f (x ∷ xs) t =
+    elim (or_cases (f x) (some? f xs) t) [
+      | inl e ↦ (0, x, refl, e)
+      | inr e ↦ let r = some_at f xs e in (suc r.0, r.1, r.2, r.3)
+    ]
 
-module _ (K : RuleBook) (rules : List RuleTable) (positions : List (List ℕ)) where
-  -- the position of the rule for the kinds a and b
-  abbrev position_of : ℕ → ℕ → ℕ
-  position_of a b = get_or (get_or positions a []) b 0
+module _ (K : RuleBook) (rows : List (Bor (List (Option (Bor RuleTable))))) where
+  -- the table is a rule of the book for the kinds a and b; where there is none, the book has none
+  abbrev right? : ℕ → ℕ → Option RuleTable → Bool
+  right? a b None = every? (λ w. not (meant? w a b)) K.rules
+  right? a b (Some r) = some? (λ w. meant? w a b && pass? (of_table K r w)) K.rules
 
-  -- there is a row and a column for each of n kinds; the tables are the book's rules in order; the rules' kinds are below n; at the position of two kinds stands the right rule
+  -- there is a row and a column for each of n kinds; the book's rules are for kinds below n; for any two of them the right table stands there
   abbrev of_shelf : List Bool
   of_shelf =
-      every? (λ row. eqb (length row) (length positions)) positions
-      ∷ both? (λ r w. pass? (of_table K r w)) rules K.rules
-      ∷ every? (λ w. ltb w.left (length positions) && ltb w.right (length positions)) K.rules
-      ∷ below? (λ a. below? (λ b. right? K.rules a b (slice_get K.rules (position_of a b))) (length positions)) (length positions)
+      every? (λ row. eqb (length row.now) (length rows)) rows
+      ∷ every? (λ w. ltb w.left (length rows) && ltb w.right (length rows)) K.rules
+      ∷ below? (λ a. below? (λ b. right? a b (rule_at rows a b)) (length rows)) (length rows)
       ∷ []
 
   module _ (t : pass? of_shelf ≡ true) (a b : ℕ) where
-    tables : both? (λ r w. pass? (of_table K r w)) rules K.rules ≡ true
-    tables = passed of_shelf t 1 _ refl
-
     -- a kind past the last row has no rule
-    lacks : (length positions ≤ a) ⊎ (length positions ≤ b) → Answers K a b None
+    lacks : (length rows ≤ a) ⊎ (length rows ≤ b) → Answers K a b None
     lacks h i w e m =
-        let p = every_at (λ w. ltb w.left (length positions) && ltb w.right (length positions)) K.rules (passed of_shelf t 2 _ refl) i w e in
-        let q = and_parts (ltb w.left (length positions)) (ltb w.right (length positions)) p in
-        let l = ltb-true w.left (length positions) q.0 in
-        let r = ltb-true w.right (length positions) q.1 in
+        let p = every_at (λ w. ltb w.left (length rows) && ltb w.right (length rows)) K.rules (passed of_shelf t 1 _ refl) i w e in
+        let q = and_parts (ltb w.left (length rows)) (ltb w.right (length rows)) p in
+        let l = ltb-true w.left (length rows) q.0 in
+        let r = ltb-true w.right (length rows) q.1 in
         omega arith
 
-    -- at the position of two kinds stands what the book answers
-    stands : (o : Option Rule) → slice_get K.rules (position_of a b) ≡ o → right? K.rules a b o ≡ true → Answers K a b (slice_get rules (position_of a b))
-    stands None e s =
-        rw (both_none (λ r w. pass? (of_table K r w)) rules K.rules tables (position_of a b) e)
-        (λ i w f m.
-        both_ways (meant? w a b) (not-true (meant? w a b) (every_at (λ w. not (meant? w a b)) K.rules s i w f)) (at_meant w a b m))
-    stands (Some w) e s =
-        let r = both_at (λ r w. pass? (of_table K r w)) rules K.rules tables (position_of a b) w e in
-        rw r.1
-        (record { position = position_of a b; rule = w; listed = e; meant = meant_at w a b s; depicts = depicts K r.0 w r.2 })
+    stands : (o : Option RuleTable) → right? a b o ≡ true → Answers K a b o
+    stands None s = λ i w e m.
+        both_ways (meant? w a b) (not-true (meant? w a b) (every_at (λ w. not (meant? w a b)) K.rules s i w e)) (at_meant w a b m)
+    stands (Some r) s =
+        let f = some_at (λ w. meant? w a b && pass? (of_table K r w)) K.rules s in
+        let p = and_parts (meant? f.1 a b) (pass? (of_table K r f.1)) f.3 in
+        record { position = f.0; rule = f.1; listed = f.2; meant = meant_at f.1 a b p.0; depicts = depicts K r f.1 p.1 }
 
-    within : a < length positions → b < length positions → Answers K a b (slice_get rules (position_of a b))
-    within ha hb =
-        let n = length positions in
-        let row = below_at (λ a. below? (λ b. right? K.rules a b (slice_get K.rules (position_of a b))) n) n (passed of_shelf t 3 _ refl) a ha in
-        stands (slice_get K.rules (position_of a b)) refl (below_at (λ b. right? K.rules a b (slice_get K.rules (position_of a b))) n row b hb)
-
-    -- what is looked up is what the book answers
-    answered : (o : Option RuleTable) → Looked rules positions a b o → Answers K a b o
-    answered o h =
-        elim (cases_lt a (length positions)) [
-          | inr past ↦ let none = slice_get_past positions a past in rw (h.found, none) (lacks (inl past))
+    -- what stands there is what the book answers
+    answered : Answers K a b (rule_at rows a b)
+    answered =
+        elim (cases_lt a (length rows)) [
+          | inr past ↦ let none = slice_get_past rows a past in rw none (lacks (inl past))
           | inl ha ↦
-              let row = slice_get-get_or positions a [] ha in
-              let long = eqb-true (length (get_or positions a [])) (length positions) (every_at (λ row. eqb (length row) (length positions)) positions (passed of_shelf t 0 _ refl) a (get_or positions a []) row) in
-              elim (cases_lt b (length positions)) [
+              elim (cases_lt b (length rows)) [
                 | inr past ↦
-                    let none = slice_get_past (get_or positions a []) b (omega arith) in
-                    rw (h.found, row, none) (lacks (inr past))
+                    let row = nth_some rows a ha in
+                    let long = eqb-true (length row.0.now) (length rows) (every_at (λ row. eqb (length row.now) (length rows)) rows (passed of_shelf t 0 _ refl) a row.0 row.1) in
+                    let none = slice_get_past row.0.now b (omega arith) in
+                    rw (row.1, none) (lacks (inr past))
                 | inl hb ↦
-                    let column = slice_get-get_or (get_or positions a []) b 0 (omega arith) in
-                    rw (h.found, row, column) (within ha hb)
+                    let n = length rows in
+                    let row = below_at (λ a. below? (λ b. right? a b (rule_at rows a b)) n) n (passed of_shelf t 2 _ refl) a ha in
+                    stands (rule_at rows a b) (below_at (λ b. right? a b (rule_at rows a b)) n row b hb)
               ]
         ]
 
 -- where the test passes, what is looked up is what the book answers
-pub shelved : (K : RuleBook) {rules : List RuleTable} {positions : List (List ℕ)} {a b : ℕ} {o : Option RuleTable} → Looked rules positions a b o → pass? (of_shelf K rules positions) ≡ true → Answers K a b o
-shelved K {rules} {positions} {a} {b} {o} h t = answered K rules positions t a b o h
+pub shelved : (K : RuleBook) {rows : List (Bor (List (Option (Bor RuleTable))))} {a b : ℕ} {o : Option RuleTable} → Looked rows a b o → pass? (of_shelf K rows) ≡ true → Answers K a b o
+shelved K {rows} {a} {b} {o} h t = rw h.found (answered K rows t a b)

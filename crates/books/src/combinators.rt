@@ -5,7 +5,8 @@ ghost use Rattle.std.proofs.Common.{refl};
 
 use crate::book::Book;
 use crate::shelf::look;
-use crate::table::{L, N1, N2, N3, N4, NO_WIRE, R, RuleTable};
+use crate::table::RulePort::{L, N, R};
+use crate::table::{NewCell, RuleTable, Wire};
 
 /// The kind γ, which has two auxiliary ports.
 pub const GAMMA: u8 = 0;
@@ -19,125 +20,108 @@ pub const EPSILON: u8 = 2;
 /// The arities of γ, δ and ε.
 static ARITIES: [u8; 3] = [2, 2, 0];
 
+/// A new γ.
+const NEW_GAMMA: NewCell = NewCell {
+    kind: GAMMA,
+    arity: 2,
+};
+
+/// A new δ.
+const NEW_DELTA: NewCell = NewCell {
+    kind: DELTA,
+    arity: 2,
+};
+
+/// A new ε.
+const NEW_EPSILON: NewCell = NewCell {
+    kind: EPSILON,
+    arity: 0,
+};
+
+// L1 --\         /-- R1         L1 --\ /-- R1
+//       γ-------γ         ==>         X
+// L2 --/         \-- R2         L2 --/ \-- R2
+const GAMMA_GAMMA: RuleTable = RuleTable {
+    left: GAMMA,
+    right: GAMMA,
+    cells: &[],
+    wires: &[Wire(L(1), R(2)), Wire(L(2), R(1))],
+};
+
+// L1 --\         /-- R1         L1 ------- R1
+//       δ-------δ         ==>
+// L2 --/         \-- R2         L2 ------- R2
+const DELTA_DELTA: RuleTable = RuleTable {
+    left: DELTA,
+    right: DELTA,
+    cells: &[],
+    wires: &[Wire(L(1), R(1)), Wire(L(2), R(2))],
+};
+
+//       ε-------ε         ==>   nothing
+const EPSILON_EPSILON: RuleTable = RuleTable {
+    left: EPSILON,
+    right: EPSILON,
+    cells: &[],
+    wires: &[],
+};
+
+// L1 --\         /-- R1         L1 --0 N1 1-------1 N3 0-- R1
+//       γ-------δ         ==>          δ  2--\ /--2 γ
+// L2 --/         \-- R2                       X
+//                               L2 --0 N2 1--/ \--1 N4 0-- R2
+//                                      δ  2-------2 γ
+const GAMMA_DELTA: RuleTable = RuleTable {
+    left: GAMMA,
+    right: DELTA,
+    cells: &[NEW_DELTA, NEW_DELTA, NEW_GAMMA, NEW_GAMMA],
+    wires: &[
+        Wire(N(0, 0), L(1)),
+        Wire(N(1, 0), L(2)),
+        Wire(N(2, 0), R(1)),
+        Wire(N(3, 0), R(2)),
+        Wire(N(0, 1), N(2, 1)),
+        Wire(N(0, 2), N(3, 1)),
+        Wire(N(1, 1), N(2, 2)),
+        Wire(N(1, 2), N(3, 2)),
+    ],
+};
+
 /// The wires of γε and δε: an ε of its own for each of L1 and L2.
-const ERASING: [[u8; 4]; 8] = [
-    [N1, 0, L, 1],
-    [N2, 0, L, 2],
-    NO_WIRE,
-    NO_WIRE,
-    NO_WIRE,
-    NO_WIRE,
-    NO_WIRE,
-    NO_WIRE,
-];
+const ERASING: &[Wire] = &[Wire(N(0, 0), L(1)), Wire(N(1, 0), L(2))];
 
-/// The rules, in the book's order.
-static RULES: [RuleTable; 6] = [
-    // L1 --\         /-- R1         L1 --\ /-- R1
-    //       γ-------γ         ==>         X
-    // L2 --/         \-- R2         L2 --/ \-- R2
-    RuleTable {
-        left: GAMMA,
-        right: GAMMA,
-        cells: 0,
-        kinds: [0; 4],
-        arities: [0; 4],
-        wires: 2,
-        joins: [
-            [L, 1, R, 2],
-            [L, 2, R, 1],
-            NO_WIRE,
-            NO_WIRE,
-            NO_WIRE,
-            NO_WIRE,
-            NO_WIRE,
-            NO_WIRE,
-        ],
-    },
-    // L1 --\         /-- R1         L1 ------- R1
-    //       δ-------δ         ==>
-    // L2 --/         \-- R2         L2 ------- R2
-    RuleTable {
-        left: DELTA,
-        right: DELTA,
-        cells: 0,
-        kinds: [0; 4],
-        arities: [0; 4],
-        wires: 2,
-        joins: [
-            [L, 1, R, 1],
-            [L, 2, R, 2],
-            NO_WIRE,
-            NO_WIRE,
-            NO_WIRE,
-            NO_WIRE,
-            NO_WIRE,
-            NO_WIRE,
-        ],
-    },
-    //       ε-------ε         ==>   nothing
-    RuleTable {
-        left: EPSILON,
-        right: EPSILON,
-        cells: 0,
-        kinds: [0; 4],
-        arities: [0; 4],
-        wires: 0,
-        joins: [NO_WIRE; 8],
-    },
-    // L1 --\         /-- R1         L1 --0 N1 1-------1 N3 0-- R1
-    //       γ-------δ         ==>          δ  2--\ /--2 γ
-    // L2 --/         \-- R2                       X
-    //                               L2 --0 N2 1--/ \--1 N4 0-- R2
-    //                                      δ  2-------2 γ
-    RuleTable {
-        left: GAMMA,
-        right: DELTA,
-        cells: 4,
-        kinds: [DELTA, DELTA, GAMMA, GAMMA],
-        arities: [2, 2, 2, 2],
-        wires: 8,
-        joins: [
-            [N1, 0, L, 1],
-            [N2, 0, L, 2],
-            [N3, 0, R, 1],
-            [N4, 0, R, 2],
-            [N1, 1, N3, 1],
-            [N1, 2, N4, 1],
-            [N2, 1, N3, 2],
-            [N2, 2, N4, 2],
-        ],
-    },
-    // L1 --\                        L1 --0 N1
-    //       γ-------ε         ==>          ε
-    // L2 --/                        L2 --0 N2
-    //                                      ε
-    RuleTable {
-        left: GAMMA,
-        right: EPSILON,
-        cells: 2,
-        kinds: [EPSILON, EPSILON, 0, 0],
-        arities: [0; 4],
-        wires: 2,
-        joins: ERASING,
-    },
-    // L1 --\                        L1 --0 N1
-    //       δ-------ε         ==>          ε
-    // L2 --/                        L2 --0 N2
-    //                                      ε
-    RuleTable {
-        left: DELTA,
-        right: EPSILON,
-        cells: 2,
-        kinds: [EPSILON, EPSILON, 0, 0],
-        arities: [0; 4],
-        wires: 2,
-        joins: ERASING,
-    },
-];
+// L1 --\                        L1 --0 N1
+//       γ-------ε         ==>          ε
+// L2 --/                        L2 --0 N2
+//                                      ε
+const GAMMA_EPSILON: RuleTable = RuleTable {
+    left: GAMMA,
+    right: EPSILON,
+    cells: &[NEW_EPSILON, NEW_EPSILON],
+    wires: ERASING,
+};
 
-/// The position of the rule for two kinds: a row and a column for each of γ, δ and ε.
-static POSITIONS: [[u8; 3]; 3] = [[0, 3, 4], [3, 1, 5], [4, 5, 2]];
+// L1 --\                        L1 --0 N1
+//       δ-------ε         ==>          ε
+// L2 --/                        L2 --0 N2
+//                                      ε
+const DELTA_EPSILON: RuleTable = RuleTable {
+    left: DELTA,
+    right: EPSILON,
+    cells: &[NEW_EPSILON, NEW_EPSILON],
+    wires: ERASING,
+};
+
+/// The rule for two kinds: a row and a column for each of γ, δ and ε.
+static RULES: [&[Option<&RuleTable>]; 3] = [
+    &[Some(&GAMMA_GAMMA), Some(&GAMMA_DELTA), Some(&GAMMA_EPSILON)],
+    &[Some(&GAMMA_DELTA), Some(&DELTA_DELTA), Some(&DELTA_EPSILON)],
+    &[
+        Some(&GAMMA_EPSILON),
+        Some(&DELTA_EPSILON),
+        Some(&EPSILON_EPSILON),
+    ],
+];
 
 /// The book of the interaction combinators, book 0.
 #[derive(Clone, Copy)]
@@ -159,6 +143,6 @@ impl Book for Combinators {
     }
 
     fn rule(&self, a: u8, b: u8) -> Option<&RuleTable> {
-        look(&RULES, &POSITIONS, a, b)
+        look(&RULES, a, b)
     }
 }

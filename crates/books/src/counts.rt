@@ -4,8 +4,9 @@ ghost use Rattle.calculus.proofs.Lawful.{counts_lawful};
 ghost use Rattle.std.proofs.Common.{refl};
 
 use crate::book::Book;
-use crate::shelf::{NO_RULE, look};
-use crate::table::{L, N1, N2, NO_WIRE, R, RuleTable};
+use crate::shelf::look;
+use crate::table::RulePort::{L, N, R};
+use crate::table::{NewCell, RuleTable, Wire};
 
 /// The kind Z, the number zero.
 pub const ZERO: u8 = 0;
@@ -19,57 +20,48 @@ pub const ADDITION: u8 = 2;
 /// The arities of Z, S and A.
 static ARITIES: [u8; 3] = [0, 1, 2];
 
-/// The rules, in the book's order.
-static RULES: [RuleTable; 2] = [
-    //               /-- R1
-    //      Z-------A          ==>   R1 ------- R2
-    //               \-- R2
-    RuleTable {
-        left: ZERO,
-        right: ADDITION,
-        cells: 0,
-        kinds: [0; 4],
-        arities: [0; 4],
-        wires: 1,
-        joins: [
-            [R, 1, R, 2],
-            NO_WIRE,
-            NO_WIRE,
-            NO_WIRE,
-            NO_WIRE,
-            NO_WIRE,
-            NO_WIRE,
-            NO_WIRE,
-        ],
-    },
-    //               /-- R1          L1 --0 N2 1-- R1
-    // L1 --S-------A          ==>          A  2--1 N1 0-- R2
-    //               \-- R2                         S
-    RuleTable {
-        left: SUCCESSOR,
-        right: ADDITION,
-        cells: 2,
-        kinds: [SUCCESSOR, ADDITION, 0, 0],
-        arities: [1, 2, 0, 0],
-        wires: 4,
-        joins: [
-            [N1, 0, R, 2],
-            [N1, 1, N2, 2],
-            [N2, 0, L, 1],
-            [N2, 1, R, 1],
-            NO_WIRE,
-            NO_WIRE,
-            NO_WIRE,
-            NO_WIRE,
-        ],
-    },
-];
+/// A new S.
+const NEW_SUCCESSOR: NewCell = NewCell {
+    kind: SUCCESSOR,
+    arity: 1,
+};
 
-/// The position of the rule for two kinds: a row and a column for each of Z, S and A.
-static POSITIONS: [[u8; 3]; 3] = [
-    [NO_RULE, NO_RULE, 0],
-    [NO_RULE, NO_RULE, 1],
-    [0, 1, NO_RULE],
+/// A new A.
+const NEW_ADDITION: NewCell = NewCell {
+    kind: ADDITION,
+    arity: 2,
+};
+
+//               /-- R1
+//      Z-------A          ==>   R1 ------- R2
+//               \-- R2
+const ZERO_ADDITION: RuleTable = RuleTable {
+    left: ZERO,
+    right: ADDITION,
+    cells: &[],
+    wires: &[Wire(R(1), R(2))],
+};
+
+//               /-- R1          L1 --0 N2 1-- R1
+// L1 --S-------A          ==>          A  2--1 N1 0-- R2
+//               \-- R2                         S
+const SUCCESSOR_ADDITION: RuleTable = RuleTable {
+    left: SUCCESSOR,
+    right: ADDITION,
+    cells: &[NEW_SUCCESSOR, NEW_ADDITION],
+    wires: &[
+        Wire(N(0, 0), R(2)),
+        Wire(N(0, 1), N(1, 2)),
+        Wire(N(1, 0), L(1)),
+        Wire(N(1, 1), R(1)),
+    ],
+};
+
+/// The rule for two kinds: a row and a column for each of Z, S and A.
+static RULES: [&[Option<&RuleTable>]; 3] = [
+    &[None, None, Some(&ZERO_ADDITION)],
+    &[None, None, Some(&SUCCESSOR_ADDITION)],
+    &[Some(&ZERO_ADDITION), Some(&SUCCESSOR_ADDITION), None],
 ];
 
 /// The book of counting, book 1.
@@ -92,6 +84,6 @@ impl Book for Counts {
     }
 
     fn rule(&self, a: u8, b: u8) -> Option<&RuleTable> {
-        look(&RULES, &POSITIONS, a, b)
+        look(&RULES, a, b)
     }
 }

@@ -4,19 +4,14 @@ ghost use Rattle.books.specs.Shelves.{Looked};
 
 use crate::table::RuleTable;
 
-/// A position past the last rule of any book, for two kinds that have no rule.
-pub(crate) const NO_RULE: u8 = 255;
-
-/// The rule whose position in `rules` stands in row `a` and column `b` of `positions`, or `None` where there is no such row, column or position.
-pub(crate) fn look<'a, const N: usize>(
-    rules: &'a [RuleTable],
-    positions: &[[u8; N]; N],
+/// The rule in row `a` and column `b`, or `None` where there is no such row or column, or no rule stands there.
+pub(crate) fn look<'a>(
+    rules: &'a [&'a [Option<&'a RuleTable<'a>>]],
     a: u8,
     b: u8,
-) -> Option<&'a RuleTable>
-    ensures { Looked rules.now positions.now a b (option_map (λ x. x.now) result) }
+) -> Option<&'a RuleTable<'a>>
+    ensures { Looked rules.now a b (option_map (λ x. x.now) result) }
 {
-    let row = positions.get(a as usize)?;
-    let position = row.get(b as usize)?;
-    rules.get(*position as usize)
+    let row = rules.get(a as usize)?;
+    *row.get(b as usize)?
 }

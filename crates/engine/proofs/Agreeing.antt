@@ -1,5 +1,5 @@
 -- Any two runs agree. Assumes nothing.
-use Rattle.std.proofs.Common.{◌≡◌, ℕ, ◌+◌, List, [], ◌∷◌, ◌++◌, length, Ok, Err, Result, sym, refl, subst, arith, length-append}
+use Rattle.std.proofs.Common.{◌≡◌, ℕ, ◌+◌, List, [], ◌∷◌, ◌++◌, length, Ok, Err, sym, refl, subst, arith, length-append}
 use Rattle.calculus.specs.Books.{RuleBook, Laws}
 use Rattle.calculus.specs.Nets.{Good, AtRest}
 use Rattle.calculus.specs.Nets.{Net as CNet}
@@ -9,8 +9,7 @@ use Rattle.calculus.specs.Reaching.Reaches.{none as stay, step as then}
 use Rattle.calculus.specs.Alike.{Alike}
 use Rattle.calculus.proofs.Respects.{equivalence}
 use Rattle.calculus.proofs.Grid.{confluent, rest_final_lem}
-use Rattle.refusals.specs.declared.faults.StrategyFault.{StrategyFault}
-use Rattle.strategies.specs.declared.pair.Pair.{Pair as Waiting}
+use Rattle.strategies.specs.Behaviour.{Behaviour}
 use Rattle.ledger.specs.Places.{Places}
 use Rattle.engine.specs.declared.net.Net.{Net}
 use Rattle.engine.specs.declared.run.Run.{Run}
@@ -97,29 +96,29 @@ module _ (K : RuleBook) where
           totals = (let x = m.totals in omega arith);
         }
 
-module _ {B S : Type 0} (mean : B → RuleBook) (laws : (b : B) → Laws (mean b)) (bag : S → List Waiting) (putting : S → Waiting → Result (Unit {0}) StrategyFault → S → Type 0) (taking : S → Result Waiting StrategyFault → S → Type 0) where
-  moment : (x : Run B S) (es : Account) (y : Run B S) → Sofar mean laws bag putting taking x es y → Moment mean bag x es y
+module _ {B S : Type 0} (mean : B → RuleBook) (laws : (b : B) → Laws (mean b)) (acts : Behaviour S) where
+  moment : (x : Run B S) (es : Account) (y : Run B S) → Sofar mean laws acts x es y → Moment mean acts x es y
   moment x es y F = record {
-    links = good_of mean laws bag y.net F.running.proper;
+    links = good_of mean laws acts y.net F.running.proper;
     running = F.running;
     count = F.count;
     way = subst (λ (b : B). Way (mean b) (now_on x) es (now_on y)) (sym F.book) F.way;
   }
 
 pub any_two_agree : {B S T : Type 0} (mean : B → RuleBook) (laws : (b : B) → Laws (mean b)) (same-book : (a b : B) → mean a ≡ mean b)
-    (bag : S → List Waiting) (clearing : S → S → Type 0) (putting : S → Waiting → Result (Unit {0}) StrategyFault → S → Type 0) (taking : S → Result Waiting StrategyFault → S → Type 0)
-    (bag' : T → List Waiting) (clearing' : T → T → Type 0) (putting' : T → Waiting → Result (Unit {0}) StrategyFault → T → Type 0) (taking' : T → Result Waiting StrategyFault → T → Type 0)
-    (y : Run B S) (y' : Run B T) → AnyTwoAgree mean bag clearing putting taking bag' clearing' putting' taking' y y'
-any_two_agree {B} {S} {T} mean laws same-book bag clearing putting taking bag' clearing' putting' taking' y y' n n' s t g g' x x' es es' h h' alike O O' t1 t2 =
-    let F = sofar mean laws bag putting taking clearing n s g x h O t1 in
-    let G = sofar mean laws bag' putting' taking' clearing' n' t g' x' h' O' t2 in
+    (acts : Behaviour S)
+    (acts' : Behaviour T)
+    (y : Run B S) (y' : Run B T) → AnyTwoAgree mean acts acts' y y'
+any_two_agree {B} {S} {T} mean laws same-book acts acts' y y' n n' s t g g' x x' es es' h h' alike O O' t1 t2 =
+    let F = sofar mean laws acts n s g x h O t1 in
+    let G = sofar mean laws acts' n' t g' x' h' O' t2 in
     let K = mean y.net.book in
-    let M = moment mean laws bag putting taking x es y F in
-    let N = moment mean laws bag' putting' taking' x' es' y' G in
+    let M = moment mean laws acts x es y F in
+    let N = moment mean laws acts' x' es' y' G in
     let v : Ways (mean y.net.book) (made es) (now_on x) (now_on y) = ways (mean y.net.book) (now_on x) M.way in
     let w : Ways (mean y.net.book) (made es') (now_on x') (now_on y') = ways (mean y.net.book) (now_on x') (subst (λ (L : RuleBook). Way L (now_on x') es' (now_on y')) (same-book y'.net.book y.net.book) N.way) in
-    let ga : Good (mean y.net.book) (now_on x) = subst (λ (L : RuleBook). Good L (now_on x)) (same-book x.net.book y.net.book) (good_of mean laws bag x.net (subst (Proper mean) (sym O.net) h)) in
-    let gb : Good (mean y.net.book) (now_on x') = subst (λ (L : RuleBook). Good L (now_on x')) (same-book x'.net.book y.net.book) (good_of mean laws bag' x'.net (subst (Proper mean) (sym O'.net) h')) in
+    let ga : Good (mean y.net.book) (now_on x) = subst (λ (L : RuleBook). Good L (now_on x)) (same-book x.net.book y.net.book) (good_of mean laws acts x.net (subst (Proper mean) (sym O.net) h)) in
+    let gb : Good (mean y.net.book) (now_on x') = subst (λ (L : RuleBook). Good L (now_on x')) (same-book x'.net.book y.net.book) (good_of mean laws acts' x'.net (subst (Proper mean) (sym O'.net) h')) in
     let al : Alike (now_on x) (now_on x') = subst (λ (m : Net B). Alike (held m) (now_on x')) (sym O.net) (subst (λ (m : Net B). Alike (held n.net) (held m)) (sym O'.net) alike) in
     let la : Alike (now_on x') (now_on x) = equivalence.back (now_on x) (now_on x') al in
     record {

@@ -1,11 +1,10 @@
 -- What an account tells of its run, call by call. Assumes nothing.
-use Rattle.std.proofs.Common.{◌≡◌, ℕ, ◌+◌, Bool, true, false, cond, List, ◌∷◌, Ok, Err, Result, sym, refl, ap, ◌∙◌, subst, ap₂, inl, inr, arith}
+use Rattle.std.proofs.Common.{◌≡◌, ℕ, ◌+◌, Bool, true, false, cond, List, ◌∷◌, Ok, Err, sym, refl, ap, ◌∙◌, subst, ap₂, inl, inr, arith}
 use Rattle.std.specs.List.{ContainsAt as Has}
 use Rattle.calculus.specs.Books.{RuleBook, Laws}
 use Rattle.calculus.specs.Nets.{Active}
 use Rattle.calculus.specs.Nets.{Pair as CPair}
-use Rattle.refusals.specs.declared.faults.StrategyFault.{StrategyFault}
-use Rattle.strategies.specs.declared.pair.Pair.{Pair as Waiting}
+use Rattle.strategies.specs.Behaviour.{Behaviour}
 use Rattle.ledger.specs.Places.{Places, places, without}
 use Rattle.ledger.proofs.Members.{has_in, in_has}
 use Rattle.ledger.proofs.Times.{one_same, out_cons, in_times, same_are}
@@ -25,12 +24,12 @@ use Rattle.engine.specs.Agreement.{Interaction, Chain, Moves, Way}
 use Rattle.engine.specs.Agreement.Chain.{none as unmoved, next as moved_by}
 use Rattle.engine.specs.Agreement.Way.{opened as at_first, moved as moved_on}
 
-module _ {B S : Type 0} (mean : B → RuleBook) (laws : (b : B) → Laws (mean b)) (bag : S → List Waiting) (putting : S → Waiting → Result (Unit {0}) StrategyFault → S → Type 0) (taking : S → Result Waiting StrategyFault → S → Type 0) where
+module _ {B S : Type 0} (mean : B → RuleBook) (laws : (b : B) → Laws (mean b)) (acts : Behaviour S) where
   -- from y to z, with the same pairs out: n interactions
   pub record Went (out : List Places) (n : ℕ) (y z : Run B S) : Type 0 where
     pub book : z.net.book ≡ y.net.book
     pub stamp : z.stamp ≡ y.stamp
-    pub running : Running mean bag z out
+    pub running : Running mean acts z out
     pub count : z.count ≡ y.count + n
     pub chain : Chain (mean y.net.book) out n (now_on y) (now_on z)
 
@@ -38,7 +37,7 @@ module _ {B S : Type 0} (mean : B → RuleBook) (laws : (b : B) → Laws (mean b
   off_again x out = ap (λ (b : Bool). cond b out (x ∷ without x out)) (same_are x x refl)
 
   -- the pair on top is out once
-  top_once : (x : Run B S) (P : CPair) (out : List Places) → Running mean bag x (places P ∷ out) → Active (mean x.net.book) (now_on x) P → Has out (places P) → ⊥
+  top_once : (x : Run B S) (P : CPair) (out : List Places) → Running mean acts x (places P ∷ out) → Active (mean x.net.book) (now_on x) P → Has out (places P) → ⊥
   top_once x P out R a h =
       let t = R.balanced.once P a in
       let e = out_cons (places P) (places P) out in
@@ -47,15 +46,15 @@ module _ {B S : Type 0} (mean : B → RuleBook) (laws : (b : B) → Laws (mean b
       omega arith
 
   -- an accepted rewrite is one interaction
-  pub interacts : (x : Run B S) (s : Slip) (z : Run B S) (out : List Places) → (A : Accepted mean bag putting taking x s z) → Running mean bag x out → Interaction (mean x.net.book) (now_on x) A.pair (now_on z)
+  pub interacts : (x : Run B S) (s : Slip) (z : Run B S) (out : List Places) → (A : Accepted mean acts x s z) → Running mean acts x out → Interaction (mean x.net.book) (now_on x) A.pair (now_on z)
   interacts x s z out A R =
       let w = A.rewrites out R in
       record { place = seat w.seats; seats = w.rewrote.seats; rewriting = w.rewrote.rewriting }
 
-  slip_pair : (x : Run B S) (s : Slip) (P : CPair) → OutHere mean bag putting taking x s P → places P ≡ slip_places s
+  slip_pair : (x : Run B S) (s : Slip) (P : CPair) → OutHere mean acts x s P → places P ≡ slip_places s
   slip_pair x s P o = ap₂ (λ (u v : ℕ). (u, v)) o.at.0 o.at.1
 
-  one_turn : (out : List Places) (n : ℕ) (w x y z : Run B S) (s : Slip) → Went out n w x → Drew mean bag putting taking x s y → Accepted mean bag putting taking y s z → Went out (n + 1) w z
+  one_turn : (out : List Places) (n : ℕ) (w x y z : Run B S) (s : Slip) → Went out n w x → Drew mean acts x s y → Accepted mean acts y s z → Went out (n + 1) w z
   one_turn out n w x y z s W D A =
       let R = D.running out W.running in
       let eb : y.net.book ≡ w.net.book = ap (λ (m : Net B). m.book) D.net ∙ W.book in
@@ -67,17 +66,17 @@ module _ {B S : Type 0} (mean : B → RuleBook) (laws : (b : B) → Laws (mean b
       record {
         book = A.book ∙ eb;
         stamp = A.stamp ∙ D.stamp ∙ W.stamp;
-        running = subst (Running mean bag z) (off_again (slip_places s) out) (A.running (slip_places s ∷ out) R);
+        running = subst (Running mean acts z) (off_again (slip_places s) out) (A.running (slip_places s ∷ out) R);
         count = (let a = A.count in let b = D.count in let c = W.count in omega arith);
-        chain = moved_by P C (λ h. top_once y P out (subst (λ (q : Places). Running mean bag y (q ∷ out)) (sym sp) R) A.out_here.ready.active h) J;
+        chain = moved_by P C (λ h. top_once y P out (subst (λ (q : Places). Running mean acts y (q ∷ out)) (sym sp) R) A.out_here.ready.active h) J;
       }
 
-  pub turns_went : (out : List Places) {n : ℕ} {w z : Run B S} → Turns mean bag putting taking n w z → Running mean bag w out → Went out n w z
+  pub turns_went : (out : List Places) {n : ℕ} {w z : Run B S} → Turns mean acts n w z → Running mean acts w out → Went out n w z
   turns_went out {n} {w} none R = record { book = refl; stamp = refl; running = R; count = omega arith; chain = unmoved }
   turns_went out (turn {n} {w} {x} {y} {z} s t d r) R = one_turn out n w x y z s (turns_went out t R) d r
 
   -- a pair that was drawn is out here
-  drawn_here : (out : List Places) (x y : Run B S) (s : Slip) → Drew mean bag putting taking x s y → Running mean bag y (slip_places s ∷ out) → (P : CPair) × OutHere mean bag putting taking y s P
+  drawn_here : (out : List Places) (x y : Run B S) (s : Slip) → Drew mean acts x s y → Running mean acts y (slip_places s ∷ out) → (P : CPair) × OutHere mean acts y s P
   drawn_here out x y s D R =
       let t = R.balanced.is_out_lem (slip_places s) (in_has (slip_places s ∷ out) (slip_places s) (inl refl)) in
       let P = t.0 in
@@ -98,43 +97,43 @@ module _ {B S : Type 0} (mean : B → RuleBook) (laws : (b : B) → Laws (mean b
       )
 
   -- a pair that comes back leaves everything as it was
-  put_back_went : (out : List Places) (n : ℕ) (u w x y z : Run B S) (s t : Slip) (b : Bool) → Went out n u w → Drew mean bag putting taking w s x → t ≡ s → y ≡ x → PutsBack mean bag putting taking y t b z → Went out n u z
+  put_back_went : (out : List Places) (n : ℕ) (u w x y z : Run B S) (s t : Slip) (b : Bool) → Went out n u w → Drew mean acts w s x → t ≡ s → y ≡ x → PutsBack mean acts y t b z → Went out n u z
   put_back_went out n u w x y z s t true W D et ey p =
       let R = D.running out W.running in
-      let Ry : Running mean bag y (slip_places s ∷ out) = subst (λ (v : Run B S). Running mean bag v (slip_places s ∷ out)) (sym ey) R in
+      let Ry : Running mean acts y (slip_places s ∷ out) = subst (λ (v : Run B S). Running mean acts v (slip_places s ∷ out)) (sym ey) R in
       let en : z.net ≡ w.net = p.net ∙ ap (λ (v : Run B S). v.net) ey ∙ D.net in
       record {
         book = ap (λ (m : Net B). m.book) en ∙ W.book;
         stamp = p.stamp ∙ ap (λ (v : Run B S). v.stamp) ey ∙ D.stamp ∙ W.stamp;
-        running = subst (Running mean bag z) (ap (λ (q : Slip). without (slip_places q) (slip_places s ∷ out)) et ∙ off_again (slip_places s) out) (p.running (slip_places s ∷ out) Ry);
+        running = subst (Running mean acts z) (ap (λ (q : Slip). without (slip_places q) (slip_places s ∷ out)) et ∙ off_again (slip_places s) out) (p.running (slip_places s ∷ out) Ry);
         count = (let a = p.count in let b = ap (λ (v : Run B S). v.count) ey in let c = D.count in let d = W.count in omega arith);
         chain = subst (λ (m : Net B). Chain (mean u.net.book) out n (now_on u) (held m)) (sym en) W.chain;
       }
   put_back_went out n u w x y z s t false W D et ey p =
       let R = D.running out W.running in
       let h = drawn_here out w x s D R in
-      absurd (p.0 h.0 (subst (λ (v : Run B S). OutHere mean bag putting taking v t h.0) (sym ey) (subst (λ (q : Slip). OutHere mean bag putting taking x q h.0) (sym et) h.1)))
+      absurd (p.0 h.0 (subst (λ (v : Run B S). OutHere mean acts v t h.0) (sym ey) (subst (λ (q : Slip). OutHere mean acts x q h.0) (sym et) h.1)))
 
-  stops_went : (out : List Places) {limit n r : ℕ} {u w z : Run B S} → Went out n u w → Stops mean bag putting taking limit n r w z → Went out n u z
+  stops_went : (out : List Places) {limit n r : ℕ} {u w z : Run B S} → Went out n u w → Stops mean acts limit n r w z → Went out n u z
   stops_went out W (done e) = W
   stops_went out {limit} {n} {r} {u} {w} {z} W (empty l d) = subst (Went out n u) (sym d.2) W
   stops_went out {limit} {n} {r} {u} W (refused {w} {x} {y} {z} s t f b l d o p) = put_back_went out n u w x y z s t b W d o.1 o.2 p
 
-  pub drives_went : (out : List Places) (y z : Run B S) (limit : ℕ) (r : ℕ × ℕ) → Running mean bag y out → Drives mean bag putting taking y limit r z → Went out r.0 y z
+  pub drives_went : (out : List Places) (y z : Run B S) (limit : ℕ) (r : ℕ × ℕ) → Running mean acts y out → Drives mean acts y limit r z → Went out r.0 y z
   drives_went out y z limit r R D = stops_went out (turns_went out D.turns R) D.stops
 
   -- what holds at a moment of an account
   pub record Sofar (x : Run B S) (es : Account) (y : Run B S) : Type 0 where
     pub book : y.net.book ≡ x.net.book
-    pub running : Running mean bag y (pairs_out es)
+    pub running : Running mean acts y (pairs_out es)
     pub count : y.count ≡ made es
     pub way : Way (mean x.net.book) (now_on x) es (now_on y)
 
   -- nothing changed but the account
   quiet : (x : Run B S) (es : Account) (y z : Run B S) (e : Event) → Sofar x es y → z ≡ y → pairs_out (e ∷ es) ≡ pairs_out es → made (e ∷ es) ≡ made es → Moves (mean x.net.book) es e (now_on y) (now_on y) → Sofar x (e ∷ es) z
-  quiet x es y z e F h o m v = subst (Sofar x (e ∷ es)) (sym h) (record { book = F.book; running = subst (Running mean bag y) (sym o) F.running; count = F.count ∙ sym m; way = moved_on e F.way v })
+  quiet x es y z e F h o m v = subst (Sofar x (e ∷ es)) (sym h) (record { book = F.book; running = subst (Running mean acts y) (sym o) F.running; count = F.count ∙ sym m; way = moved_on e F.way v })
 
-  step : (x : Run B S) (es : Account) (y z : Run B S) (e : Event) → Sofar x es y → Calls mean bag putting taking y e z → Sofar x (e ∷ es) z
+  step : (x : Run B S) (es : Account) (y z : Run B S) (e : Event) → Sofar x es y → Calls mean acts y e z → Sofar x (e ∷ es) z
   step x es y z (draw (Ok s)) F D = record {
     book = ap (λ (m : Net B). m.book) D.net ∙ F.book;
     running = D.running (pairs_out es) F.running;
@@ -168,6 +167,6 @@ module _ {B S : Type 0} (mean : B → RuleBook) (laws : (b : B) → Laws (mean b
   step x es y z (close f) F C = quiet x es y z (close f) F C.2 refl refl refl
   step x es y z (leave f) F C = quiet x es y z (leave f) F C.2 refl refl refl
 
-  pub sofar : (clearing : S → S → Type 0) (n : Sealed B) (s : S) (g : ℕ) (x : Run B S) → Proper mean n.net → Opens mean bag clearing putting n s g x → {es : Account} {y : Run B S} → Tells mean bag putting taking x es y → Sofar x es y
-  sofar clearing n s g x h O opened = record { book = refl; running = O.running h; count = O.count; way = at_first }
-  sofar clearing n s g x h O (called {es} {y} {z} e t c) = step x es y z e (sofar clearing n s g x h O t) c
+  pub sofar : (n : Sealed B) (s : S) (g : ℕ) (x : Run B S) → Proper mean n.net → Opens mean acts n s g x → {es : Account} {y : Run B S} → Tells mean acts x es y → Sofar x es y
+  sofar n s g x h O opened = record { book = refl; running = O.running h; count = O.count; way = at_first }
+  sofar n s g x h O (called {es} {y} {z} e t c) = step x es y z e (sofar n s g x h O t) c

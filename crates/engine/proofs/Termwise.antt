@@ -1,13 +1,12 @@
 -- Runs of the nets of terms come to normal forms. Assumes nothing.
-use Rattle.std.proofs.Common.{◌≡◌, ℕ, List, length, Result, sym, ap, ◌∙◌, subst, arith}
+use Rattle.std.proofs.Common.{◌≡◌, ℕ, List, length, sym, ap, ◌∙◌, subst, arith}
 use Rattle.calculus.specs.Books.{RuleBook, Laws}
 use Rattle.calculus.specs.Nets.{Good, AtRest}
 use Rattle.calculus.specs.Nets.{Net as CNet}
 use Rattle.calculus.specs.Alike.{Alike}
 use Rattle.calculus.specs.Combinators.{combinators}
 use Rattle.calculus.proofs.Respects.{equivalence}
-use Rattle.refusals.specs.declared.faults.StrategyFault.{StrategyFault}
-use Rattle.strategies.specs.declared.pair.Pair.{Pair as Waiting}
+use Rattle.strategies.specs.Behaviour.{Behaviour}
 use Rattle.lambda.specs.Reduction.{normal_form}
 use Rattle.lambda.specs.TermNets.{net}
 use Rattle.lambda.proofs.Reducing.{nets_reduce_terms_lem, reductions_end_lem}
@@ -47,16 +46,16 @@ comes_to is t lt ls A B k good good' al w rest =
           );
     }
 
-module _ {B S : Type 0} (mean : B → RuleBook) (laws : (b : B) → Laws (mean b)) (bag : S → List Waiting) (clearing : S → S → Type 0) (putting : S → Waiting → Result (Unit {0}) StrategyFault → S → Type 0) (taking : S → Result Waiting StrategyFault → S → Type 0) where
+module _ {B S : Type 0} (mean : B → RuleBook) (laws : (b : B) → Laws (mean b)) (acts : Behaviour S) where
   pub run_comes_to : (n : Sealed B) (s : S) (given : ℕ) (x y : Run B S) (es : Account) (is : List (List ℕ)) (t : Named) →
       mean n.net.book ≡ combinators → LinearNamed t → Lists is t → Alike (net_under is t) (held n.net) → Proper mean n.net →
-      Opens mean bag clearing putting n s given x → Tells mean bag putting taking x es y → AtRest (mean y.net.book) (now_on y) → ComesTo is t y.count (now_on y)
+      Opens mean acts n s given x → Tells mean acts x es y → AtRest (mean y.net.book) (now_on y) → ComesTo is t y.count (now_on y)
   run_comes_to n s given x y es is t eb lt ls al h O T rest =
-      let F = sofar mean laws bag putting taking clearing n s given x h O T in
+      let F = sofar mean laws acts n s given x h O T in
       let bx : mean x.net.book ≡ combinators = ap (λ (m : Net B). mean m.book) O.net ∙ eb in
       let by : mean y.net.book ≡ combinators = ap mean F.book ∙ bx in
       let w = ways combinators (now_on x) (subst (λ (K : RuleBook). Way K (now_on x) es (now_on y)) bx F.way) in
-      let gx = subst (λ (K : RuleBook). Good K (now_on x)) bx (good_of mean laws bag x.net (subst (Proper mean) (sym O.net) h)) in
-      let gy = subst (λ (K : RuleBook). Good K (now_on y)) by (good_of mean laws bag y.net F.running.proper) in
+      let gx = subst (λ (K : RuleBook). Good K (now_on x)) bx (good_of mean laws acts x.net (subst (Proper mean) (sym O.net) h)) in
+      let gy = subst (λ (K : RuleBook). Good K (now_on y)) by (good_of mean laws acts y.net F.running.proper) in
       let c = comes_to is t lt ls (now_on x) (now_on y) (made es) gx gy (subst (λ (m : Net B). Alike (net_under is t) (held m)) (sym O.net) al) w (subst (λ (K : RuleBook). AtRest K (now_on y)) by rest) in
       subst (λ (k : ℕ). ComesTo is t k (now_on y)) (sym F.count) c

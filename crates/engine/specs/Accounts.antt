@@ -3,7 +3,7 @@ use Rattle.std.specs.Prelude.{ℕ, ◌+◌, Bool, true, false, List, [], ◌∷�
 use Rattle.calculus.specs.Books.{RuleBook}
 use Rattle.refusals.specs.declared.faults.StrategyFault.{StrategyFault}
 use Rattle.refusals.specs.declared.faults.RunFault.{RunFault}
-use Rattle.strategies.specs.declared.pair.Pair.{Pair as Waiting}
+use Rattle.strategies.specs.Behaviour.{Behaviour}
 use Rattle.engine.specs.declared.run.Run.{Run}
 use Rattle.engine.specs.declared.slip.Slip.{Slip}
 use Rattle.ledger.specs.Places.{Places, without}
@@ -47,15 +47,15 @@ made (drive limit r ∷ es) = made es + r.0
 made (close f ∷ es) = made es
 made (leave f ∷ es) = made es
 
-module _ {B S : Type 0} (mean : B → RuleBook) (bag : S → List Waiting) (putting : S → Waiting → Result (Unit {0}) StrategyFault → S → Type 0) (taking : S → Result Waiting StrategyFault → S → Type 0) where
+module _ {B S : Type 0} (mean : B → RuleBook) (acts : Behaviour S) where
   -- one call, by its contract, leads from the run x to the run y
   abbrev pub Calls : Run B S → Event → Run B S → Type 0
-  Calls x (draw r) y = Draws mean bag putting taking x r y
-  Calls x (rewrite s r) y = Spends mean bag putting taking x s r y
-  Calls x (put_back s b) y = PutsBack mean bag putting taking x s b y
-  Calls x (drive limit r) y = Drives mean bag putting taking x limit r y
-  Calls x (close f) y = Closes mean bag putting taking x (Err (f, y))
-  Calls x (leave f) y = Leaves mean bag putting taking x (Err (f, y))
+  Calls x (draw r) y = Draws mean acts x r y
+  Calls x (rewrite s r) y = Spends mean acts x s r y
+  Calls x (put_back s b) y = PutsBack mean acts x s b y
+  Calls x (drive limit r) y = Drives mean acts x limit r y
+  Calls x (close f) y = Closes mean acts x (Err (f, y))
+  Calls x (leave f) y = Leaves mean acts x (Err (f, y))
 
   -- the account leads from the run x, as it was opened, to the run y
   pub data Tells (x : Run B S) : Account → Run B S → Type 0 where

@@ -1,5 +1,5 @@
 -- Any two runs agree. Assumes nothing.
-use Rattle.std.specs.Prelude.{◌≡◌, ℕ, ◌+◌, ◌<◌, ◌≤◌, List, [], ◌∷◌, length, Ok, Err, Result}
+use Rattle.std.specs.Prelude.{◌≡◌, ℕ, ◌+◌, ◌<◌, ◌≤◌, List, [], ◌∷◌, length, Ok, Err}
 use Rattle.std.specs.List.{ContainsAt as Has}
 use Rattle.calculus.specs.Books.{RuleBook}
 use Rattle.calculus.specs.Nets.{Good, AtRest}
@@ -9,8 +9,7 @@ use Rattle.calculus.specs.Rewriting.{Rewriting}
 use Rattle.calculus.specs.Reaching.{Reaches}
 use Rattle.calculus.specs.Alike.{Alike}
 use Rattle.nets.specs.Rewrites.{Seats}
-use Rattle.refusals.specs.declared.faults.StrategyFault.{StrategyFault}
-use Rattle.strategies.specs.declared.pair.Pair.{Pair as Waiting}
+use Rattle.strategies.specs.Behaviour.{Behaviour}
 use Rattle.engine.specs.declared.sealed.Sealed.{Sealed}
 use Rattle.engine.specs.declared.run.Run.{Run}
 use Rattle.engine.specs.declared.progress.Progress.{Progress}
@@ -74,29 +73,26 @@ module _ (K : RuleBook) where
     pub totals : j + length more ≡ k + length more'
 
 -- a moment of one account: all links mutual; waiting and out are exactly the active pairs, each once, and exactly the cells of those out are marked; the count is the interactions made; and the account tells the way of the net
-pub record Moment {B S : Type 0} (mean : B → RuleBook) (bag : S → List Waiting) (x : Run B S) (es : Account) (y : Run B S) : Type 0 where
+pub record Moment {B S : Type 0} (mean : B → RuleBook) (acts : Behaviour S) (x : Run B S) (es : Account) (y : Run B S) : Type 0 where
   pub links : Good (mean y.net.book) (now_on y)
-  pub running : Running mean bag y (pairs_out es)
+  pub running : Running mean acts y (pairs_out es)
   pub count : y.count ≡ made es
   pub way : Way (mean y.net.book) (now_on x) es (now_on y)
 
 -- a moment of one account beside a moment of another
-pub record Agree {B S T : Type 0} (mean : B → RuleBook) (bag : S → List Waiting) (bag' : T → List Waiting) (x : Run B S) (es : Account) (y : Run B S) (x' : Run B T) (es' : Account) (y' : Run B T) : Type 0 where
-  pub first : Moment mean bag x es y
-  pub second : Moment mean bag' x' es' y'
+pub record Agree {B S T : Type 0} (mean : B → RuleBook) (acts : Behaviour S) (acts' : Behaviour T) (x : Run B S) (es : Account) (y : Run B S) (x' : Run B T) (es' : Account) (y' : Run B T) : Type 0 where
+  pub first : Moment mean acts x es y
+  pub second : Moment mean acts' x' es' y'
   pub one_book : mean y'.net.book ≡ mean y.net.book
   pub final : AtRest (mean y.net.book) (now_on y) → Final (mean y.net.book) (made es) (made es') (now_on y) (now_on y')
   pub final' : AtRest (mean y.net.book) (now_on y') → Final (mean y.net.book) (made es') (made es) (now_on y') (now_on y)
   pub meets : Meets (mean y.net.book) (made es) (made es') (now_on y) (now_on y')
 
 -- for any book, any two strategies, any two alike nets of the book, any two openings of them and any two accounts: the runs agree
-abbrev pub AnyTwoAgree : {B S T : Type 0} → (B → RuleBook) →
-    (S → List Waiting) → (S → S → Type 0) → (S → Waiting → Result (Unit {0}) StrategyFault → S → Type 0) → (S → Result Waiting StrategyFault → S → Type 0) →
-    (T → List Waiting) → (T → T → Type 0) → (T → Waiting → Result (Unit {0}) StrategyFault → T → Type 0) → (T → Result Waiting StrategyFault → T → Type 0) →
-    Run B S → Run B T → Type 0
-AnyTwoAgree {B} {S} {T} mean bag clearing putting taking bag' clearing' putting' taking' y y' =
+abbrev pub AnyTwoAgree : {B S T : Type 0} → (B → RuleBook) → Behaviour S → Behaviour T → Run B S → Run B T → Type 0
+AnyTwoAgree {B} {S} {T} mean acts acts' y y' =
     (n n' : Sealed B) (s : S) (t : T) (stamp stamp' : ℕ) (x : Run B S) (x' : Run B T) (es es' : Account) →
     Proper mean n.net → Proper mean n'.net → Alike (held n.net) (held n'.net) →
-    Opens mean bag clearing putting n s stamp x → Opens mean bag' clearing' putting' n' t stamp' x' →
-    Tells mean bag putting taking x es y → Tells mean bag' putting' taking' x' es' y' →
-    Agree mean bag bag' x es y x' es' y'
+    Opens mean acts n s stamp x → Opens mean acts' n' t stamp' x' →
+    Tells mean acts x es y → Tells mean acts' x' es' y' →
+    Agree mean acts acts' x es y x' es' y'

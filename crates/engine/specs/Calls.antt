@@ -8,6 +8,7 @@ use Rattle.refusals.specs.declared.faults.StrategyFault.TheVariants.{Empty}
 use Rattle.refusals.specs.declared.faults.RunFault.{RunFault}
 use Rattle.refusals.specs.declared.faults.RunFault.TheVariants.{Foreign, NoPlace, Spent, Busy}
 use Rattle.refusals.specs.Faults.{run_refusal}
+use Rattle.strategies.specs.Behaviour.{Behaviour}
 use Rattle.strategies.specs.declared.pair.Pair.{Pair as Waiting}
 use Rattle.strategies.specs.Bags.{Put, Taken, Cleared}
 use Rattle.engine.specs.declared.sealed.Sealed.{Sealed}
@@ -21,42 +22,42 @@ use Rattle.engine.specs.States.{now_on, Proper, marked, slip_places}
 use Rattle.ledger.specs.Places.{Places, without}
 use Rattle.engine.specs.Running.{Running}
 
-module _ {S : Type 0} (bag : S → List Waiting) (putting : S → Waiting → Result (Unit {0}) StrategyFault → S → Type 0) where
+module _ {S : Type 0} (acts : Behaviour S) where
   -- the pairs are put one after the other, none is refused, and each put leaves the strategy's state as its own relation says
   pub data Puts : S → List Waiting → S → Type 0 where
     none : {s : S} → Puts s [] s
-    put : {s t u : S} {p : Waiting} {ps : List Waiting} → Put (bag s) p (Ok tt) (bag t) → putting s p (Ok tt) t → Puts t ps u → Puts s (p ∷ ps) u
+    put : {s t u : S} {p : Waiting} {ps : List Waiting} → Put (acts.bag s) p (Ok tt) (acts.bag t) → acts.putting s p (Ok tt) t → Puts t ps u → Puts s (p ∷ ps) u
 
 -- the run that a sealed net, a strategy and a stamp are opened to
-pub record Opens {B S : Type 0} (mean : B → RuleBook) (bag : S → List Waiting) (clearing : S → S → Type 0) (putting : S → Waiting → Result (Unit {0}) StrategyFault → S → Type 0) (n : Sealed B) (s : S) (given : ℕ) (x : Run B S) : Type 0 where
+pub record Opens {B S : Type 0} (mean : B → RuleBook) (acts : Behaviour S) (n : Sealed B) (s : S) (given : ℕ) (x : Run B S) : Type 0 where
   pub net : x.net ≡ n.net
   pub stamp : x.stamp ≡ given
   pub count : x.count ≡ 0
   pub unmarked : (r : ℕ) → marked x r ≡ false
   -- the strategy is cleared, and then every active pair put by rising lower place
   pub cleared : S
-  pub clears : clearing s cleared
-  pub empty : Cleared (bag cleared)
-  pub puts : Proper mean n.net → (ps : List CPair) × InOrder (Active (mean n.net.book) (now_on x)) ps × Puts bag putting cleared (map waiting ps) x.strategy
-  pub running : Proper mean n.net → Running mean bag x []
+  pub clears : acts.clearing s cleared
+  pub empty : Cleared (acts.bag cleared)
+  pub puts : Proper mean n.net → (ps : List CPair) × InOrder (Active (mean n.net.book) (now_on x)) ps × Puts acts cleared (map waiting ps) x.strategy
+  pub running : Proper mean n.net → Running mean acts x []
 
-module _ {B S : Type 0} (mean : B → RuleBook) (bag : S → List Waiting) (putting : S → Waiting → Result (Unit {0}) StrategyFault → S → Type 0) (taking : S → Result Waiting StrategyFault → S → Type 0) where
+module _ {B S : Type 0} (mean : B → RuleBook) (acts : Behaviour S) where
   -- a draw that answers a slip: some waiting pair, with this run's stamp; its cells are marked, and nothing else changes
   pub record Drew (x : Run B S) (s : Slip) (y : Run B S) : Type 0 where
     pub pair : Waiting
-    pub taken : Taken (bag x.strategy) (Ok pair) (bag y.strategy)
-    pub own : taking x.strategy (Ok pair) y.strategy
+    pub taken : Taken (acts.bag x.strategy) (Ok pair) (acts.bag y.strategy)
+    pub own : acts.taking x.strategy (Ok pair) y.strategy
     pub slip : s ≡ record { stamp = x.stamp; left = pair.left; right = pair.right }
-    pub marks : y.marks ≡ slice_set (slice_set x.marks pair.left true) pair.right true
+    pub marks : y.marks.cells ≡ slice_set (slice_set x.marks.cells pair.left true) pair.right true
     pub net : y.net ≡ x.net
     pub stamp : y.stamp ≡ x.stamp
     pub count : y.count ≡ x.count
-    pub running : (out : List Places) → Running mean bag x out → Running mean bag y (slip_places s ∷ out)
+    pub running : (out : List Places) → Running mean acts x out → Running mean acts y (slip_places s ∷ out)
 
   -- a draw is refused exactly when no pair waits, and then nothing changes
   abbrev pub Draws : Run B S → Result Slip StrategyFault → Run B S → Type 0
   Draws x (Ok s) y = Drew x s y
-  Draws x (Err f) y = (f ≡ Empty) × (length (bag x.strategy) ≡ 0) × (y ≡ x)
+  Draws x (Err f) y = (f ≡ Empty) × (length (acts.bag x.strategy) ≡ 0) × (y ≡ x)
 
   -- the slip's pair is out here: it has this run's stamp, its cells are marked, and they are an active pair, L first
   pub record OutHere (x : Run B S) (s : Slip) (P : CPair) : Type 0 where
@@ -83,19 +84,19 @@ module _ {B S : Type 0} (mean : B → RuleBook) (bag : S → List Waiting) (putt
     pub rewrote : RewroteAt (mean x.net.book) x.net.table P seats y.net.table
     pub became : List CPair
     pub order : InOrder (Became (mean x.net.book) (now_on x) P (now_on y)) became
-    pub puts : Puts bag putting x.strategy (map waiting became) y.strategy
+    pub puts : Puts acts x.strategy (map waiting became) y.strategy
 
   pub record Accepted (x : Run B S) (s : Slip) (y : Run B S) : Type 0 where
     pub pair : CPair
     pub out_here : OutHere x s pair
     pub unspent : IsSpent x → ⊥
     pub room : RoomForRule x.net.table pair
-    pub marks : y.marks ≡ slice_set (slice_set x.marks s.left false) s.right false
+    pub marks : y.marks.cells ≡ slice_set (slice_set x.marks.cells s.left false) s.right false
     pub book : y.net.book ≡ x.net.book
     pub stamp : y.stamp ≡ x.stamp
     pub count : y.count ≡ x.count + 1
-    pub rewrites : (out : List Places) → Running mean bag x out → Rewrites x s pair y
-    pub running : (out : List Places) → Running mean bag x out → Running mean bag y (without (slip_places s) out)
+    pub rewrites : (out : List Places) → Running mean acts x out → Rewrites x s pair y
+    pub running : (out : List Places) → Running mean acts x out → Running mean acts y (without (slip_places s) out)
 
   -- which answer is due; a refusal hands the slip back and changes nothing
   abbrev pub Spends : Run B S → Slip → Result (Unit {0}) (RunFault × Slip) → Run B S → Type 0
@@ -106,12 +107,12 @@ module _ {B S : Type 0} (mean : B → RuleBook) (bag : S → List Waiting) (putt
   pub record Returned (x : Run B S) (s : Slip) (y : Run B S) : Type 0 where
     pub pair : CPair
     pub out_here : OutHere x s pair
-    pub marks : y.marks ≡ slice_set (slice_set x.marks s.left false) s.right false
+    pub marks : y.marks.cells ≡ slice_set (slice_set x.marks.cells s.left false) s.right false
     pub net : y.net ≡ x.net
     pub stamp : y.stamp ≡ x.stamp
     pub count : y.count ≡ x.count
-    pub puts : (out : List Places) → Running mean bag x out → Puts bag putting x.strategy (waiting pair ∷ []) y.strategy
-    pub running : (out : List Places) → Running mean bag x out → Running mean bag y (without (slip_places s) out)
+    pub puts : (out : List Places) → Running mean acts x out → Puts acts x.strategy (waiting pair ∷ []) y.strategy
+    pub running : (out : List Places) → Running mean acts x out → Running mean acts y (without (slip_places s) out)
 
   -- no exactly when the pair is not out here, and then nothing changes
   abbrev pub PutsBack : Run B S → Slip → Bool → Run B S → Type 0
@@ -137,14 +138,14 @@ module _ {B S : Type 0} (mean : B → RuleBook) (bag : S → List Waiting) (putt
 
   -- why a run is not closed: a pair waits, or a cell is marked as out
   abbrev pub IsBusy : Run B S → Type 0
-  IsBusy x = (0 < length (bag x.strategy)) ⊎ ((r : ℕ) × (marked x r ≡ true))
+  IsBusy x = (0 < length (acts.bag x.strategy)) ⊎ ((r : ℕ) × (marked x r ≡ true))
 
   pub record Closed (x : Run B S) (r : Normal B × ℕ × S) : Type 0 where
     pub none : IsBusy x → ⊥
     pub net : r.0.net ≡ x.net
     pub count : r.1 ≡ x.count
     pub strategy : r.2 ≡ x.strategy
-    pub rests : (out : List Places) → Running mean bag x out → AtRest (mean x.net.book) (now_on x)
+    pub rests : (out : List Places) → Running mean acts x out → AtRest (mean x.net.book) (now_on x)
 
   -- a refused close hands the run back
   abbrev pub Closes : Run B S → Result (Normal B × ℕ × S) (RunFault × Run B S) → Type 0
@@ -156,7 +157,7 @@ module _ {B S : Type 0} (mean : B → RuleBook) (bag : S → List Waiting) (putt
     pub net : r.0.net ≡ x.net
     pub count : r.1 ≡ x.count
     pub strategy : r.2 ≡ x.strategy
-    pub proper : (out : List Places) → Running mean bag x out → Proper mean r.0.net
+    pub proper : (out : List Places) → Running mean acts x out → Proper mean r.0.net
 
   -- a refused leave hands the run back
   abbrev pub Leaves : Run B S → Result (Sealed B × ℕ × S) (RunFault × Run B S) → Type 0

@@ -1,11 +1,11 @@
 -- What the private functions of a run tell each other; no public contract cites it. Assumes nothing.
-use Rattle.std.specs.Prelude.{◌≡◌, ℕ, ◌+◌, ◌<◌, ◌≤◌, true, List, [], map, length, Result}
+use Rattle.std.specs.Prelude.{◌≡◌, ℕ, ◌+◌, ◌<◌, ◌≤◌, true, List, [], map, length}
 use Rattle.calculus.specs.Books.{RuleBook}
 use Rattle.calculus.specs.Nets.{Active}
 use Rattle.calculus.specs.Nets.{Pair as CPair}
-use Rattle.refusals.specs.declared.faults.StrategyFault.{StrategyFault}
 use Rattle.refusals.specs.declared.faults.RunFault.{RunFault}
 use Rattle.refusals.specs.declared.faults.RunFault.TheVariants.{Foreign, NoPlace, Spent}
+use Rattle.strategies.specs.Behaviour.{Behaviour}
 use Rattle.strategies.specs.declared.pair.Pair.{Pair as Waiting}
 use Rattle.nets.specs.declared.fault.PairFault.{PairFault}
 use Rattle.nets.specs.declared.fault.PairFault.TheVariants.{NotReady, LoopsFull}
@@ -17,15 +17,14 @@ use Rattle.pairs.specs.Pairs.{InOrder, waiting, lower}
 use Rattle.engine.specs.States.{held, Proper, marked}
 use Rattle.engine.specs.Calls.{Puts}
 
-module _ {S : Type 0} (bag : S → List Waiting) (putting : S → Waiting → Result (Unit {0}) StrategyFault → S → Type 0) where
-  -- the pairs are put where there is room for them
-  abbrev pub PutEach : S → List Waiting → S → Type 0
-  PutEach s ps t = length (bag s) + length ps ≤ 512 → Puts bag putting s ps t
+-- the pairs are put where there is room for them
+abbrev pub PutEach : {S : Type 0} → Behaviour S → S → List Waiting → S → Type 0
+PutEach acts s ps t = length (acts.bag s) + length ps ≤ 512 → Puts acts s ps t
 
-  -- into an empty strategy, the active pairs of a net with their lower place below n are put by rising lower place
-  abbrev pub PutUpTo : {B : Type 0} → (B → RuleBook) → Net B → S → ℕ → S → Type 0
-  PutUpTo mean m s n t =
-      Proper mean m → bag s ≡ [] → (ps : List CPair) × InOrder (λ P. Active (mean m.book) (held m) P × (lower P < n)) ps × Puts bag putting s (map waiting ps) t
+-- into an empty strategy, the active pairs of a net with their lower place below n are put by rising lower place
+abbrev pub PutUpTo : {B S : Type 0} → (B → RuleBook) → Behaviour S → Net B → S → ℕ → S → Type 0
+PutUpTo mean acts m s n t =
+    Proper mean m → acts.bag s ≡ [] → (ps : List CPair) × InOrder (λ P. Active (mean m.book) (held m) P × (lower P < n)) ps × Puts acts s (map waiting ps) t
 
 -- the slip has the run's stamp, and its places are marked
 pub record Presented {B S : Type 0} (x : Run B S) (s : Slip) : Type 0 where

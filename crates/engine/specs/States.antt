@@ -3,6 +3,7 @@ use Rattle.std.specs.Prelude.{ℕ, Bool, false, slice_index_or}
 use Rattle.calculus.specs.Books.{RuleBook}
 use Rattle.calculus.specs.Nets.{Net as CNet}
 use Rattle.nets.specs.Meaning.{net, OfBook}
+use Rattle.engine.specs.declared.marks.Marks.{Marks}
 use Rattle.engine.specs.declared.net.Net.{Net}
 use Rattle.engine.specs.declared.run.Run.{Run}
 use Rattle.engine.specs.declared.slip.Slip.{Slip}
@@ -20,9 +21,13 @@ now_on x = held x.net
 abbrev pub Proper : {B : Type 0} → (B → RuleBook) → Net B → Type 0
 Proper mean n = OfBook (mean n.book) n.table
 
+-- the cell in the place is marked
+abbrev pub has_mark : Marks → ℕ → Bool
+has_mark m r = slice_index_or m.cells r false
+
 -- the cell in the place is marked as out
 abbrev pub marked : {B S : Type 0} → Run B S → ℕ → Bool
-marked x r = slice_index_or x.marks r false
+marked x r = has_mark x.marks r
 
 -- the places of the pair that a slip is for
 abbrev pub slip_places : Slip → Places

@@ -4,9 +4,8 @@ use Rattle.calculus.specs.Books.{RuleBook}
 use Rattle.calculus.specs.Nets.{Net as CNet}
 use Rattle.calculus.specs.Alike.{Alike}
 use Rattle.calculus.specs.Combinators.{combinators}
-use Rattle.refusals.specs.declared.faults.StrategyFault.{StrategyFault}
 use Rattle.refusals.specs.declared.faults.RunFault.{RunFault}
-use Rattle.strategies.specs.declared.pair.Pair.{Pair as Waiting}
+use Rattle.strategies.specs.Behaviour.{Behaviour}
 use Rattle.lambda.specs.Reduction.{steps, normal_form}
 use Rattle.lambda.specs.TermNets.{net}
 use Rattle.lambda.specs.Indices.{Same}
@@ -27,10 +26,9 @@ pub record ComesTo (is : List (List ℕ)) (t : Named) (k : ℕ) (A : CNet) : Typ
   pub reads : (u : Named) → LinearNamed u → Lists is u → Alike (net_under is u) A → Same (term_under is u) (normal_form (term_under is t))
 
 -- a run of the net of a linear term, whatever its strategy and whatever was called, that is closed
-abbrev pub ClosesTerms : {B S : Type 0} → (B → RuleBook) → (S → List Waiting) → (S → S → Type 0) → (S → Waiting → Result (Unit {0}) StrategyFault → S → Type 0) → (S → Result Waiting StrategyFault → S → Type 0) →
-    Run B S → Result (Normal B × ℕ × S) (RunFault × Run B S) → Type 0
-ClosesTerms {B} {S} mean bag clearing putting taking y (Ok r) =
+abbrev pub ClosesTerms : {B S : Type 0} → (B → RuleBook) → Behaviour S → Run B S → Result (Normal B × ℕ × S) (RunFault × Run B S) → Type 0
+ClosesTerms {B} {S} mean acts y (Ok r) =
     (n : Sealed B) (s : S) (given : ℕ) (x : Run B S) (es : Account) (is : List (List ℕ)) (t : Named) →
     mean n.net.book ≡ combinators → LinearNamed t → Lists is t → Alike (net_under is t) (held n.net) → Proper mean n.net →
-    Opens mean bag clearing putting n s given x → Tells mean bag putting taking x es y → ComesTo is t r.1 (held r.0.net)
-ClosesTerms mean bag clearing putting taking y (Err e) = Unit {0}
+    Opens mean acts n s given x → Tells mean acts x es y → ComesTo is t r.1 (held r.0.net)
+ClosesTerms mean acts y (Err e) = Unit {0}

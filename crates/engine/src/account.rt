@@ -7,7 +7,7 @@ use strategies::strategy::Strategy;
 
 /// Draws a pair and puts it back, draws again and rewrites, and then drives: the account of these calls leads from the run as it was to the run as it is.
 pub fn take_turns<B: Book, S: Strategy>(run: &mut Run<B, S>, limit: u32) -> (u32, u8)
-    ensures { Accounted B.Book.meaning S.Strategy.bag S.Strategy.putting S.Strategy.taking run.old limit result run.new }
+    ensures { Accounted B.Book.meaning S.Strategy run.old limit result run.new }
 {
     try_pair(run);
     rewrite_one(run);
@@ -16,7 +16,7 @@ pub fn take_turns<B: Book, S: Strategy>(run: &mut Run<B, S>, limit: u32) -> (u32
 
 // Draws a pair and puts it back.
 fn try_pair<B: Book, S: Strategy>(run: &mut Run<B, S>)
-    ensures { Led B.Book.meaning S.Strategy.bag S.Strategy.putting S.Strategy.taking run.old run.new }
+    ensures { Led B.Book.meaning S.Strategy run.old run.new }
 {
     if let Ok(slip) = run.draw() {
         run.put_back(slip);
@@ -25,7 +25,7 @@ fn try_pair<B: Book, S: Strategy>(run: &mut Run<B, S>)
 
 // Draws a pair and rewrites it, or puts it back where that is refused.
 fn rewrite_one<B: Book, S: Strategy>(run: &mut Run<B, S>)
-    ensures { Led B.Book.meaning S.Strategy.bag S.Strategy.putting S.Strategy.taking run.old run.new }
+    ensures { Led B.Book.meaning S.Strategy run.old run.new }
 {
     if let Ok(slip) = run.draw() {
         if let Err((_, slip)) = run.rewrite(slip) {

@@ -9,12 +9,14 @@ use strategies::strategy::Strategy;
 impl<B: Book, S: Strategy> Run<B, S> {
     /// Draws and rewrites until the limit is done, draw is refused, or rewrite is refused; then the pair is put back.
     /// Answers how many it did, and why it stopped: 0 for the limit, else 14, 16 or 17.
+    // the project's rule: a drive answers two plain numbers
     pub fn drive(&mut self, limit: u32) -> (u32, u8)
-        ensures { Drives B.Book.meaning S.Strategy.bag S.Strategy.putting S.Strategy.taking self.old limit result self.new }
+        ensures { Drives B.Book.meaning S.Strategy self.old limit result self.new }
     {
         for done in 0..limit {
-            let Ok(slip) = self.draw() else {
-                return (done, 14);
+            let slip = match self.draw() {
+                Ok(slip) => slip,
+                Err(fault) => return (done, fault.refusal().number),
             };
             if let Err((fault, slip)) = self.rewrite(slip) {
                 self.put_back(slip);

@@ -1,34 +1,52 @@
-// The marks of a run.
-ghost use Rattle.std.specs.Prelude.{◌≡◌, ℕ, true, false, length, Decides, slice_index_or};
-ghost use Rattle.engine.specs.States.{marked};
+// Which cells of a run are marked as out.
+ghost use Rattle.std.specs.Prelude.{◌≡◌, ℕ, true, false, length, Decides, slice_set};
 
-use crate::run::Run;
+/// A mark for each place.
+#[derive(Drop)]
+pub(crate) struct Marks {
+    cells: [bool; 1024],
+    ghost wide: { length cells ≡ 1024 },
+}
 
-impl<B, S> Run<B, S> {
-    /// Whether the cell in a place is marked as out.
-    pub(crate) fn is_marked(&self, place: u16) -> bool
-        ensures { result ≡ marked self.now place }
+impl Marks {
+    ghost use Rattle.engine.specs.States.{has_mark};
+
+    /// No cell is marked.
+    pub(crate) fn none() -> Marks
+        ensures { (k : ℕ) → has_mark result k ≡ false }
     {
-        place < 1024 && self.marks[place as usize]
+        Marks {
+            cells: [false; 1024],
+        }
+    }
+
+    /// Whether the cell in a place is marked.
+    pub(crate) fn has(&self, place: u16) -> bool
+        ensures { result ≡ has_mark self.now place }
+    {
+        place < 1024 && self.cells[place as usize]
     }
 
     /// Whether any cell is.
-    pub(crate) fn has_out(&self) -> bool
-        ensures { Decides result ((k : ℕ) × (marked self.now k ≡ true)) }
+    pub(crate) fn any(&self) -> bool
+        ensures { Decides result ((k : ℕ) × (has_mark self.now k ≡ true)) }
     {
-        for place in 0..1024usize {
-            if self.marks[place] {
-                return true;
-            }
-        }
-        false
+        self.cells.contains(&true)
     }
-}
 
-/// No marks.
-pub(crate) fn no_marks() -> [bool; 1024]
-    ensures long { length result ≡ 1024 }
-    ensures none { (k : ℕ) → slice_index_or result k false ≡ false }
-{
-    [false; 1024]
+    /// Sets the marks of two places; there is none past the last place.
+    pub(crate) fn set(&mut self, left: u16, right: u16, out: bool)
+        ensures { self.new.cells ≡ slice_set (slice_set self.old.cells left out) right out }
+    {
+        self.set_one(left, out);
+        self.set_one(right, out);
+    }
+
+    fn set_one(&mut self, place: u16, out: bool)
+        ensures { self.new.cells ≡ slice_set self.old.cells place out }
+    {
+        if place < 1024 {
+            self.cells[place as usize] = out;
+        }
+    }
 }

@@ -3,10 +3,11 @@ ghost use Rattle.engine.specs.Agreement.{AnyTwoAgree, Compared};
 
 use crate::run::Run;
 use books::book::Book;
+use std::cmp::Ordering;
 use strategies::strategy::Strategy;
 
 /// How one run stands to another: so many interactions behind it, level with it, or so many ahead.
-#[derive(Clone, Copy)]
+#[derive(Clone, Copy, PartialEq, Eq, Debug)]
 pub enum Progress {
     Behind(u32),
     Level,
@@ -19,13 +20,11 @@ pub fn compare_progress<B: Book, S: Strategy, T: Strategy>(
     second: &Run<B, T>,
 ) -> Progress
     ensures answer { Compared first.now.count second.now.count result }
-    ensures agree { AnyTwoAgree B.Book.meaning S.Strategy.bag S.Strategy.clearing S.Strategy.putting S.Strategy.taking T.Strategy.bag T.Strategy.clearing T.Strategy.putting T.Strategy.taking first.now second.now }
+    ensures agree { AnyTwoAgree B.Book.meaning S.Strategy T.Strategy first.now second.now }
 {
-    if second.count < first.count {
-        Progress::Behind(first.count - second.count)
-    } else if second.count > first.count {
-        Progress::Ahead(second.count - first.count)
-    } else {
-        Progress::Level
+    match second.count.cmp(&first.count) {
+        Ordering::Less => Progress::Behind(first.count - second.count),
+        Ordering::Equal => Progress::Level,
+        Ordering::Greater => Progress::Ahead(second.count - first.count),
     }
 }

@@ -1,32 +1,28 @@
 // Letting pairs wait.
 ghost use Rattle.engine.specs.Inner.{PutEach, PutUpTo};
-ghost use Rattle.pairs.specs.Forming.{formed};
 
 use crate::net::Net;
 use books::book::Book;
-use pairs::active::active_pair;
-use pairs::formed::Formed;
+use pairs::active::led_by;
+use strategies::pair::Pair;
 use strategies::strategy::Strategy;
 
 /// Puts pairs in their order.
-pub(crate) fn put_each<S: Strategy>(strategy: &mut S, pairs: &Formed)
-    ensures { PutEach S.Strategy.bag S.Strategy.putting strategy.old (formed pairs.now) strategy.new }
+pub(crate) fn put_each<S: Strategy>(strategy: &mut S, pairs: &[Pair])
+    ensures { PutEach S.Strategy strategy.old pairs.now strategy.new }
 {
-    for i in 0..pairs.count as usize {
-        let _ = strategy.put(pairs.pairs[i]);
+    for pair in pairs {
+        let _ = strategy.put(*pair);
     }
 }
 
 /// Puts every active pair of a net, by rising lower place.
 pub(crate) fn put_active<B: Book, S: Strategy>(net: &Net<B>, strategy: &mut S)
-    ensures { PutUpTo S.Strategy.bag S.Strategy.putting B.Book.meaning net.now strategy.old 1024 strategy.new }
+    ensures { PutUpTo B.Book.meaning S.Strategy net.now strategy.old 1024 strategy.new }
 {
-    for place in 0..1024u16 {
-        if let Some(pair) = active_pair(&net.book, &net.table, place) {
-            let lower = pair.left.min(pair.right);
-            if place == lower {
-                let _ = strategy.put(pair);
-            }
+    for place in 0..1024 {
+        if let Some(pair) = led_by(&net.book, &net.table, place) {
+            let _ = strategy.put(pair);
         }
     }
 }

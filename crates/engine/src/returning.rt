@@ -1,7 +1,6 @@
 // Putting a pair back.
 ghost use Rattle.engine.specs.Calls.{PutsBack};
 
-use crate::drawing::set_marks;
 use crate::run::Run;
 use crate::slip::Slip;
 use books::book::Book;
@@ -10,19 +9,16 @@ use strategies::strategy::Strategy;
 
 impl<B: Book, S: Strategy> Run<B, S> {
     /// Spends the slip: if its pair is out here, it waits again, and the answer is yes; otherwise nothing changes.
+    // the project's rule: a put back answers yes or no, and takes the slip either way
     pub fn put_back(&mut self, slip: Slip) -> bool
-        ensures { PutsBack B.Book.meaning S.Strategy.bag S.Strategy.putting S.Strategy.taking self.old slip result self.new }
+        ensures { PutsBack B.Book.meaning S.Strategy self.old slip result self.new }
     {
         let is_out = self.is_out(&slip);
-        let Slip {
-            stamp: _,
-            left,
-            right,
-        } = slip;
+        let (left, right) = slip.spend();
         if !is_out {
             return false;
         }
-        set_marks(&mut self.marks, left, right, false);
+        self.marks.set(left, right, false);
         if let Some(pair) = active_pair(&self.net.book, &self.net.table, left) {
             let _ = self.strategy.put(pair);
         }

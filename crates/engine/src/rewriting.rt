@@ -4,7 +4,7 @@ ghost use Rattle.calculus.specs.Nets.{Pair as CPair};
 ghost use Rattle.engine.specs.Calls.{Spends, OutHere};
 ghost use Rattle.engine.specs.Inner.{Presented, IsReady, run_fault};
 
-use crate::drawing::set_marks;
+use crate::net::Net;
 use crate::putting::put_each;
 use crate::run::Run;
 use crate::slip::Slip;
@@ -20,25 +20,23 @@ const MOST: u32 = 100_000_000;
 impl<B: Book, S: Strategy> Run<B, S> {
     /// Spends the slip: rewrites its pair, adds 1 to the count, and puts each pair that became active. A refusal hands the slip back.
     pub fn rewrite(&mut self, slip: Slip) -> Result<(), (RunFault, Slip)>
-        ensures { Spends B.Book.meaning S.Strategy.bag S.Strategy.putting S.Strategy.taking self.old slip result self.new }
+        ensures { Spends B.Book.meaning S.Strategy self.old slip result self.new }
     {
         if !self.is_presented(&slip) {
             return Err((RunFault::Foreign, slip));
         }
         if self.count >= MOST {
-            if self.is_ready(&slip) {
-                return Err((RunFault::Spent, slip));
-            }
-            return Err((RunFault::Foreign, slip));
+            let fault = if self.is_ready(&slip) {
+                RunFault::Spent
+            } else {
+                RunFault::Foreign
+            };
+            return Err((fault, slip));
         }
         match rewrite_pair(&self.net.book, &mut self.net.table, slip.left, slip.right) {
             Ok(formed) => {
-                let Slip {
-                    stamp: _,
-                    left,
-                    right,
-                } = slip;
-                set_marks(&mut self.marks, left, right, false);
+                let (left, right) = slip.spend();
+                self.marks.set(left, right, false);
                 put_each(&mut self.strategy, &formed);
                 self.count += 1;
                 Ok(())
@@ -51,12 +49,12 @@ impl<B: Book, S: Strategy> Run<B, S> {
     fn is_presented(&self, slip: &Slip) -> bool
         ensures { Decides result (Presented self.now slip.now) }
     {
-        slip.stamp == self.stamp && self.is_marked(slip.left) && self.is_marked(slip.right)
+        slip.stamp == self.stamp && self.marks.has(slip.left) && self.marks.has(slip.right)
     }
 
     /// Whether the slip's pair is out here.
     pub(crate) fn is_out(&self, slip: &Slip) -> bool
-        ensures { Decides result ((P : CPair) × OutHere B.Book.meaning S.Strategy.bag S.Strategy.putting S.Strategy.taking self.now slip.now P) }
+        ensures { Decides result ((P : CPair) × OutHere B.Book.meaning S.Strategy self.now slip.now P) }
     {
         self.is_presented(slip) && self.is_ready(slip)
     }
@@ -65,19 +63,15 @@ impl<B: Book, S: Strategy> Run<B, S> {
     fn is_ready(&self, slip: &Slip) -> bool
         ensures { Decides result (IsReady B.Book.meaning self.now slip.now) }
     {
-        match self
-            .net
-            .table
-            .check_pair(&self.net.book, slip.left, slip.right)
-        {
-            Some(PairFault::NotReady) => false,
-            Some(PairFault::LoopsFull) => true,
-            Some(PairFault::NoPlace) => true,
-            None => true,
-        }
+        let Net { book, table } = &self.net;
+        !matches!(
+            table.check_pair(book, slip.left, slip.right),
+            Some(PairFault::NotReady)
+        )
     }
 }
 
+// no From: an impl stands in the crate of one of its types, and neither of these is of this crate
 fn to_run_fault(fault: PairFault) -> RunFault
     ensures { result ≡ run_fault fault }
 {

@@ -1,5 +1,4 @@
-ghost use Rattle.std.specs.Prelude.{◌≡◌, length};
-
+use crate::marks::Marks;
 use crate::net::Net;
 
 /// A net that is worked on: its active pairs wait in the strategy or are out, under slips with this run's stamp; the cells of a pair that is out are marked.
@@ -8,8 +7,7 @@ use crate::net::Net;
 pub struct Run<B, S> {
     pub(crate) net: Net<B>,
     pub(crate) strategy: S,
-    pub(crate) marks: [bool; 1024],
+    pub(crate) marks: Marks,
     pub(crate) stamp: u32,
     pub(crate) count: u32,
-    ghost wide: { length marks ≡ 1024 },
 }

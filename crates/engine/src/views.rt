@@ -12,6 +12,7 @@ use books::book::Book;
 use netfile::writer::write;
 use refusals::faults::FileFault;
 
+// one line for each state; a trait for both would be longer
 impl<B> Sealed<B> {
     /// The sealed net.
     pub fn net(&self) -> &Net<B>

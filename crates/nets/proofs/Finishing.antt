@@ -1,6 +1,7 @@
 -- All that the code of one rewrite did, put together. Assumes nothing.
-use Rattle.std.proofs.Common.{◌≡◌, ℕ, zero, suc, ◌+◌, ◌-◌, ◌*◌, ◌^◌, ◌<◌, ◌≤◌, Bool, true, false, cond, eqb, ltb, ◌≢◌, ◌⊎◌, List, [], ◌∷◌, map, length, get_or, take, Some, None, vec_items, Option, sym, refl, ap, ◌∙◌, subst, ap₂, inl, inr, arith}
+use Rattle.std.proofs.Common.{◌≡◌, ℕ, zero, suc, ◌+◌, ◌-◌, ◌*◌, ◌^◌, ◌<◌, ◌≤◌, Bool, true, false, cond, eqb, ltb, ◌≢◌, ◌⊎◌, List, [], ◌∷◌, map, length, get_or, Some, None, vec_items, Option, sym, refl, ap, ◌∙◌, subst, ap₂, inl, inr, arith}
 use Rattle.std.specs.List.{slice_get}
+use Rattle.std.proofs.lemmas.Option.{get_or_from_slice_get}
 use Rattle.std.proofs.lemmas.Bool.{cases_eq, cases_lt}
 use Rattle.calculus.specs.Spots.{Spot, port}
 use Rattle.calculus.specs.Books.{RulePort, L, R, N, Rule, RuleBook, RuleLaws, Laws, Wired, Leaving, Entering}
@@ -9,18 +10,20 @@ use Rattle.calculus.specs.Rewriting.{Rewriting}
 use Rattle.calculus.proofs.Tests.{nth_within}
 use Rattle.calculus.proofs.Places.{nth_some}
 use Rattle.books.specs.declared.table.RuleTable.{RuleTable}
-use Rattle.books.specs.Tables.{wires_of, Depicts}
+use Rattle.books.specs.Tables.{kinds_of, arities_of, wires_of, Depicts}
+use Rattle.books.proofs.Depicted.{cells_same}
 use Rattle.nets.specs.declared.link.Link.{Link}
 use Rattle.nets.specs.declared.table.Table.{Table}
 use Rattle.nets.specs.Layout.{code, decode, goal, bit, is_used, NamesStanding, NamesBack, NamesOther}
 use Rattle.nets.specs.Meaning.{Content, content, kind_at, arity_at, mate_of, net_of, net, OfBook}
-use Rattle.nets.specs.Fitting.{Paired, Fitting}
+use Rattle.nets.specs.Fitting.{Paired, Fitting, Told}
 use Rattle.nets.specs.Rewrites.{Face, ports_at, pair, Seats}
 use Rattle.nets.specs.ByBook.{seat}
-use Rattle.nets.specs.Rewiring.{Whole, Known, row_of, number_of, seat_of, Room, Places, Filled, Cleared, Laid, Strung}
+use Rattle.nets.specs.Rewiring.{Known, row_of, number_of, seat_of, Room, Places, Filled, Cleared, Laid, Strung}
 use Rattle.nets.specs.Seating.{Replaceable, Seated, Downwards}
 use Rattle.nets.proofs.Places.{bit_low}
-use Rattle.nets.proofs.Standing.{either, there, at_slot, decode_code, code_decode, code_small, mate_there, is_there, there_port, port_there, some_arity}
+use Rattle.nets.specs.Inner.{there}
+use Rattle.nets.proofs.Standing.{either, at_slot, decode_code, code_decode, code_small, mate_there, is_there, there_port, port_there, some_arity}
 use Rattle.nets.proofs.Standing as standing
 use Rattle.nets.proofs.Seatings.{turn, vacant, none_above, none_between, lower, given_up, places, new_on, gone_off, others, long, turned, left_row, right_row}
 use Rattle.nets.proofs.Makeshift.{arity_of, rule_for, book_for, arity_else, cell_arity, laws_for, listing_long}
@@ -56,21 +59,29 @@ module _ (t : Table) (p q : ℕ) (F : Face (net t) p q) where
   pub q_low : q < 1024
   q_low = bit_low t.occupied q t.wide q_on
 
-  pub p_named : goal (vec_items t.links) (p * 4) ≡ q * 4
+  pub p_named : goal (vec_items t.links.targets) (p * 4) ≡ q * 4
   p_named =
       let e : p * 4 + 0 ≡ p * 4 = omega arith in
-      ap (goal (vec_items t.links)) (sym e) ∙ sym (code_decode (goal (vec_items t.links) (p * 4 + 0))) ∙ ap code (sym (mate_there (content t) (port p 0) there_p) ∙ F.0) ∙ (omega arith)
+      ap (goal (vec_items t.links.targets)) (sym e) ∙ sym (code_decode (goal (vec_items t.links.targets) (p * 4 + 0))) ∙ ap code (sym (mate_there (content t) (port p 0) there_p) ∙ F.0) ∙ (omega arith)
 
-pub face_from : (t : Table) (p q : ℕ) → bit t.occupied p ≡ 1 → q < 1030 → goal (vec_items t.links) (p * 4) ≡ q * 4 → Face (net t) p q
+pub face_from : (t : Table) (p q : ℕ) → bit t.occupied p ≡ 1 → q < 1030 → goal (vec_items t.links.targets) (p * 4) ≡ q * 4 → Face (net t) p q
 face_from t p q h l e =
     let th = there_port (content t) p 0 h (omega arith) in
     let a : p * 4 + 0 ≡ p * 4 = omega arith in
     let b : q * 4 ≡ q * 4 + 0 = omega arith in
-    let m : (net t).mate (port p 0) ≡ port q 0 = mate_there (content t) (port p 0) th ∙ ap decode (ap (goal (vec_items t.links)) a ∙ e ∙ b) ∙ decode_code (port q 0) (l, omega arith) in
+    let m : (net t).mate (port p 0) ≡ port q 0 = mate_there (content t) (port p 0) th ∙ ap decode (ap (goal (vec_items t.links.targets)) a ∙ e ∙ b) ∙ decode_code (port q 0) (l, omega arith) in
     (m, λ z. standing.apart t (port p 0) th (m ∙ ap (λ (r : ℕ). port r 0) (sym z)))
 
+-- the test of the code
+pub facing_told : (t : Table) (p q k : ℕ) → bit t.occupied p ≡ 1 → q < 1030 → k ≡ goal (vec_items t.links.targets) (p * 4) → Told (Face (net t) p q) (eqb k (q * 4))
+facing_told t p q k h l e = go (cases_eq k (q * 4))
+  where
+    go : (k ≡ q * 4) ⊎ (k ≢ q * 4) → Told (Face (net t) p q) (eqb k (q * 4))
+    go (inl y) = let b : eqb k (q * 4) ≡ true = grind (arith) in subst (Told (Face (net t) p q)) (sym b) (face_from t p q h l (sym e ∙ y))
+    go (inr n) = let b : eqb k (q * 4) ≡ false = grind (arith) in subst (Told (Face (net t) p q)) (sym b) (λ F. n (e ∙ p_named t p q F))
+
 -- the rows of the rule have room
-pub room_of : (a b : ℕ) (r : RuleTable) → Fitting a b r → a ≤ 2 → b ≤ 2 → (ps : List ℕ) → Places (seat ps) r.cells → Room (wires_of r) ps
+pub room_of : (a b : ℕ) (r : RuleTable) → Fitting a b r → a ≤ 2 → b ≤ 2 → (ps : List ℕ) → Places (seat ps) (length r.cells.now) → Room (wires_of r) ps
 room_of a b r F ha hb ps P = record {
   known = λ x y w. known x (F.pairs_only x y w);
   rows = λ x y w. rows x (F.pairs_only x y w);
@@ -107,17 +118,17 @@ room_of a b r F ha hb ps P = record {
 -- what the code did
 pub record Did (s : Table) (p q : ℕ) (r : RuleTable) (d : Content) : Type 0 where
   pub ps : List ℕ
-  pub seated : Seated p q r.cells s.occupied ps d.occupied
-  pub relinked : Relinked (content s) p q r.cells (wires_of r) ps (1024 + turn p q) (1025 - turn p q) (ltb (turn p q) r.cells) (ltb (1 - turn p q) r.cells) d.links d.loops
-  pub kinds : Filled (content s).kinds r.kinds r.cells ps d.kinds
-  pub arities : Filled (content s).arities r.arities r.cells ps d.arities
+  pub seated : Seated p q (length r.cells.now) s.occupied ps d.occupied
+  pub relinked : Relinked (content s) p q (length r.cells.now) (wires_of r) ps (1024 + turn p q) (1025 - turn p q) (ltb (turn p q) (length r.cells.now)) (ltb (1 - turn p q) (length r.cells.now)) d.links d.loops
+  pub kinds : Filled (content s).kinds (kinds_of r) (length r.cells.now) ps d.kinds
+  pub arities : Filled (content s).arities (arities_of r) (length r.cells.now) ps d.arities
   pub ends : d.ends ≡ s.ends
 
 -- the steps on the links, with what the code read in place of what it means
 pub relinked_of : (s : Table) (p q : ℕ) (r : RuleTable) (ps : List ℕ) (us vs xs ys zs : List Link) (tn x y top low i j l : ℕ) → tn ≡ turn p q → x ≡ ports_at s p → y ≡ ports_at s q →
-    Cleared (content s).links p (1024 + tn) x (ltb tn r.cells) us top → Cleared us q (1025 - tn) y (ltb (1 - tn) r.cells) vs low → Laid vs (wires_of r) ps xs →
+    Cleared (content s).links p (1024 + tn) x (ltb tn (length r.cells.now)) us top → Cleared us q (1025 - tn) y (ltb (1 - tn) (length r.cells.now)) vs low → Laid vs (wires_of r) ps xs →
     Strung xs top 1028 x ys i → Strung ys low 1029 y zs j → l ≡ s.loops + i + j →
-    Relinked (content s) p q r.cells (wires_of r) ps (1024 + turn p q) (1025 - turn p q) (ltb (turn p q) r.cells) (ltb (1 - turn p q) r.cells) zs l
+    Relinked (content s) p q (length r.cells.now) (wires_of r) ps (1024 + turn p q) (1025 - turn p q) (ltb (turn p q) (length r.cells.now)) (ltb (1 - turn p q) (length r.cells.now)) zs l
 relinked_of s p q r ps us vs xs ys zs tn x y top low i j l et ex ey C D A T U e = record {
   us = us;
   vs = vs;
@@ -127,8 +138,8 @@ relinked_of s p q r ps us vs xs ys zs tn x y top low i j l et ex ey C D A T U e 
   low = low;
   i = i;
   j = j;
-  top_clear = subst (λ (t : ℕ). Cleared (content s).links p (1024 + t) (ports_at s p) (ltb t r.cells) us top) et (subst (λ (x : ℕ). Cleared (content s).links p (1024 + tn) x (ltb tn r.cells) us top) ex C);
-  low_clear = subst (λ (t : ℕ). Cleared us q (1025 - t) (ports_at s q) (ltb (1 - t) r.cells) vs low) et (subst (λ (y : ℕ). Cleared us q (1025 - tn) y (ltb (1 - tn) r.cells) vs low) ey D);
+  top_clear = subst (λ (t : ℕ). Cleared (content s).links p (1024 + t) (ports_at s p) (ltb t (length r.cells.now)) us top) et (subst (λ (x : ℕ). Cleared (content s).links p (1024 + tn) x (ltb tn (length r.cells.now)) us top) ex C);
+  low_clear = subst (λ (t : ℕ). Cleared us q (1025 - t) (ports_at s q) (ltb (1 - t) (length r.cells.now)) vs low) et (subst (λ (y : ℕ). Cleared us q (1025 - tn) y (ltb (1 - tn) (length r.cells.now)) vs low) ey D);
   laid_in = A;
   left = subst (λ (x : ℕ). Strung xs top 1028 x ys i) ex T;
   right = subst (λ (y : ℕ). Strung ys low 1029 y zs j) ey U;
@@ -142,13 +153,6 @@ other_test : (x y : ℕ) → x ≢ y → eqb x y ≡ false
 other_test x y n = grind (arith)
 
 -- lists
-taken_at : (n : ℕ) (xs : List ℕ) (i k : ℕ) → slice_get (take n xs) i ≡ Some k → get_or xs i 0 ≡ k
-taken_at zero [] i k e = absurd (let z : ◌≡◌ {A = ℕ} 0 1 = cc in omega arith)
-taken_at zero (x ∷ xs) i k e = absurd (let z : ◌≡◌ {A = ℕ} 0 1 = cc in omega arith)
-taken_at (suc n) [] i k e = absurd (let z : ◌≡◌ {A = ℕ} 0 1 = cc in omega arith)
-taken_at (suc n) (x ∷ xs) zero k e = cc
-taken_at (suc n) (x ∷ xs) (suc i) k e = taken_at n xs i k e
-
 mapped_at : {X Y : Type 0} (f : X → Y) (xs : List X) (i : ℕ) (x : X) → slice_get xs i ≡ Some x → slice_get (map f xs) i ≡ Some (f x)
 mapped_at f [] i x e = absurd (let z : ◌≡◌ {A = ℕ} 0 1 = cc in omega arith)
 mapped_at f (y ∷ ys) zero x e = let z : y ≡ x = cc in ap (λ (v : _). Some (f v)) z
@@ -161,32 +165,32 @@ at_mapped f (x ∷ xs) (suc i) y e = at_mapped f xs i y e
 
 -- the rule that the table shows
 module _ (K : RuleBook) (r : RuleTable) (w : Rule) (D : Depicts K r w) where
-  cell_kind : (i k : ℕ) → slice_get w.cells i ≡ Some k → get_or r.kinds i 0 ≡ k
-  cell_kind i k e = taken_at r.cells r.kinds i k (ap (λ (ks : List ℕ). slice_get ks i) D.kinds ∙ e)
+  cell_kind : (i k : ℕ) → slice_get w.cells i ≡ Some k → get_or (kinds_of r) i 0 ≡ k
+  cell_kind i k e = get_or_from_slice_get (kinds_of r) i k 0 (ap (λ (ks : List ℕ). slice_get ks i) D.kinds ∙ e)
 
-  pub cell_arity_of : (i k : ℕ) → slice_get w.cells i ≡ Some k → K.arity k ≡ Some (get_or r.arities i 0)
+  pub cell_arity_of : (i k : ℕ) → slice_get w.cells i ≡ Some k → K.arity k ≡ Some (get_or (arities_of r) i 0)
   cell_arity_of i k e =
       let f = mapped_at K.arity w.cells i k e in
-      let t = at_mapped {Y = Option ℕ} Some (take r.cells r.arities) i (K.arity k) (ap (λ (os : List (Option ℕ)). slice_get os i) D.arities ∙ f) in
-      sym t.2 ∙ ap (λ (v : ℕ). Some v) (sym (taken_at r.cells r.arities i t.0 t.1))
+      let t = at_mapped {Y = Option ℕ} Some (arities_of r) i (K.arity k) (ap (λ (os : List (Option ℕ)). slice_get os i) D.arities ∙ f) in
+      sym t.2 ∙ ap (λ (v : ℕ). Some v) (sym (get_or_from_slice_get (arities_of r) i t.0 0 t.1))
 
   -- it fits cells of the rule's kinds
   pub depicted_fits : RuleLaws K w → (a b : ℕ) → K.arity w.left ≡ Some a → K.arity w.right ≡ Some b → ((k x : ℕ) → K.arity k ≡ Some x → x ≤ 2) → Fitting a b r
   depicted_fits rl a b ea eb two = record {
-    few = (let f = rl.few in let c = D.cells in omega arith);
-    arities = λ i h. let t = nth_some w.cells i (let c = D.cells in omega arith) in two t.0 (get_or r.arities i 0) (cell_arity_of i t.0 t.1);
-    pairs_all = λ x h. let t = rl.pairs_all x (spoken x h) in (t.0, subst (λ (ws : List (RulePort × RulePort)). Wired ws x t.0) (sym D.joins) t.1);
-    pairs_only = λ x y v. paired x (rl.pairs_only x y (subst (λ (ws : List (RulePort × RulePort)). Wired ws x y) D.joins v));
-    with_one = λ x y z u v. rl.with_one x y z (subst (λ (ws : List (RulePort × RulePort)). Wired ws x y) D.joins u) (subst (λ (ws : List (RulePort × RulePort)). Wired ws x z) D.joins v);
-    with_other = λ x y v. rl.with_other x y (subst (λ (ws : List (RulePort × RulePort)). Wired ws x y) D.joins v);
+    few = (let f = rl.few in let c = cells_same K r w D in omega arith);
+    arities = λ i h. let t = nth_some w.cells i (let c = cells_same K r w D in omega arith) in two t.0 (get_or (arities_of r) i 0) (cell_arity_of i t.0 t.1);
+    pairs_all = λ x h. let t = rl.pairs_all x (spoken x h) in (t.0, subst (λ (ws : List (RulePort × RulePort)). Wired ws x t.0) (sym D.wires) t.1);
+    pairs_only = λ x y v. paired x (rl.pairs_only x y (subst (λ (ws : List (RulePort × RulePort)). Wired ws x y) D.wires v));
+    with_one = λ x y z u v. rl.with_one x y z (subst (λ (ws : List (RulePort × RulePort)). Wired ws x y) D.wires u) (subst (λ (ws : List (RulePort × RulePort)). Wired ws x z) D.wires v);
+    with_other = λ x y v. rl.with_other x y (subst (λ (ws : List (RulePort × RulePort)). Wired ws x y) D.wires v);
   }
     where
       spoken : (x : RulePort) → Paired a b r x → Leaving K w x ⊎ Entering K w x
       spoken (L j) h = inl (h.0, (a, ea, h.1))
       spoken (R j) h = inl (h.0, (b, eb, h.1))
       spoken (N i j) h =
-          let t = nth_some w.cells i (let c = D.cells in let l = h.0 in omega arith) in
-          inr (t.0, t.1, (get_or r.arities i 0, cell_arity_of i t.0 t.1, h.1))
+          let t = nth_some w.cells i (let c = cells_same K r w D in let l = h.0 in omega arith) in
+          inr (t.0, t.1, (get_or (arities_of r) i 0, cell_arity_of i t.0 t.1, h.1))
 
       paired : (x : RulePort) → Leaving K w x ⊎ Entering K w x → Paired a b r x
       paired (L j) (inl (h, (c, e, l))) = let z : Some c ≡ Some a = sym e ∙ ea in let y : c ≡ a = cc in (h, omega arith)
@@ -195,17 +199,17 @@ module _ (K : RuleBook) (r : RuleTable) (w : Rule) (D : Depicts K r w) where
       paired (R j) (inr h) = absurd h
       paired (N i j) (inl h) = absurd h
       paired (N i j) (inr (k, e, (c, f, l))) =
-          let z : Some c ≡ Some (get_or r.arities i 0) = sym f ∙ cell_arity_of i k e in
-          let y : c ≡ get_or r.arities i 0 = cc in
+          let z : Some c ≡ Some (get_or (arities_of r) i 0) = sym f ∙ cell_arity_of i k e in
+          let y : c ≡ get_or (arities_of r) i 0 = cc in
           let m = nth_within w.cells i k e in
-          (let n = D.cells in omega arith, omega arith)
+          (let n = cells_same K r w D in omega arith, omega arith)
 
 module _ (s : Table) (p q : ℕ) (r : RuleTable) (Y : Replaceable s p q r) (d : Content) (W : Did s p q r d) where
   abbrev c : Content
   c = content s
 
   abbrev n : ℕ
-  n = r.cells
+  n = length r.cells.now
 
   abbrev ps : List ℕ
   ps = W.ps
@@ -234,10 +238,10 @@ module _ (s : Table) (p q : ℕ) (r : RuleTable) (Y : Replaceable s p q r) (d : 
   low_q : q < 1024
   low_q = q_low s p q Y.facing
 
-  PL : Places (seat W.ps) r.cells
+  PL : Places (seat W.ps) (length r.cells.now)
   PL = places p q n s.occupied ps d.occupied W.seated F.few pq low_p low_q on_p on_q
 
-  seats : GivenSeats (content s) p q r.cells W.ps (1024 + turn p q) (1025 - turn p q) (ltb (turn p q) r.cells) (ltb (1 - turn p q) r.cells)
+  seats : GivenSeats (content s) p q (length r.cells.now) W.ps (1024 + turn p q) (1025 - turn p q) (ltb (turn p q) (length r.cells.now)) (ltb (1 - turn p q) (length r.cells.now))
   seats =
       let t = turned p q n s.occupied ps d.occupied W.seated F.few pq low_p low_q on_p on_q in
       record {
@@ -253,7 +257,7 @@ module _ (s : Table) (p q : ℕ) (r : RuleTable) (Y : Replaceable s p q r) (d : 
         two = λ e. omega (arith, t.0);
       }
 
-  people : Peopled (content s) p q r.cells r.arities W.ps d
+  people : Peopled (content s) p q (length r.cells.now) (arities_of r) W.ps d
   people = record {
     ends = W.ends;
     new = λ i h. (new_on p q n s.occupied ps d.occupied W.seated F.few pq low_p low_q on_p on_q i h, W.arities.new i h);
@@ -268,7 +272,7 @@ module _ (s : Table) (p q : ℕ) (r : RuleTable) (Y : Replaceable s p q r) (d : 
   some_none : (o : Option ℕ) (k : ℕ) → o ≡ Some k → o ≢ None
   some_none o k e f = let z : ◌≡◌ {A = ℕ} 0 1 = cc in omega arith
 
-  pub downwards : Downwards (net s) p q r.cells (seat W.ps)
+  pub downwards : Downwards (net s) p q (length r.cells.now) (seat W.ps)
   downwards =
       let kc : ℕ → ℕ = λ x. get_or (content s).kinds x 0 in
       record {
@@ -326,10 +330,10 @@ module _ (s : Table) (p q : ℕ) (r : RuleTable) (Y : Replaceable s p q r) (d : 
   laws : Laws (book_for (ports_at s p) (ports_at s q) r)
   laws = laws_for a b r F (s.ports p) (s.ports q)
 
-  count : length (rule_for r).cells ≡ r.cells
-  count = listing_long (λ i. 2 + get_or r.arities i 0) r.cells
+  count : length (rule_for r).cells ≡ length r.cells.now
+  count = listing_long (λ i. 2 + get_or (arities_of r) i 0) (length r.cells.now)
 
-  ar : (i k : ℕ) → slice_get (rule_for r).cells i ≡ Some k → arity_of (ports_at s p) (ports_at s q) k ≡ Some (get_or r.arities i 0)
+  ar : (i k : ℕ) → slice_get (rule_for r).cells i ≡ Some k → arity_of (ports_at s p) (ports_at s q) k ≡ Some (get_or (arities_of r) i 0)
   ar i k e = (cell_arity a b r F (s.ports p) (s.ports q) i k e).2
 
   new_kind : (i k : ℕ) → slice_get (rule_for r).cells i ≡ Some k → kdd (seat W.ps i) ≡ k
@@ -337,11 +341,11 @@ module _ (s : Table) (p q : ℕ) (r : RuleTable) (Y : Replaceable s p q r) (d : 
       let t = cell_arity a b r F (s.ports p) (s.ports q) i k e in
       ap (λ (v : ℕ). 2 + v) (W.arities.new i t.0) ∙ sym t.1
 
-  old_kind : (x : ℕ) → x ≢ p → x ≢ q → ((i : ℕ) → i < r.cells → x ≢ seat W.ps i) → kdd x ≡ kd x
+  old_kind : (x : ℕ) → x ≢ p → x ≢ q → ((i : ℕ) → i < length r.cells.now → x ≢ seat W.ps i) → kdd x ≡ kd x
   old_kind x i j o = ap (λ (v : ℕ). 2 + v) (W.arities.other x o) ∙ sym (kd_else x i j)
 
   makeshift : Rewriting (book_for (ports_at s p) (ports_at s q) r) (net_with (content s) kd) (pair p q 0 (rule_for r)) (seat W.ps) (net_with d kdd)
-  makeshift = is_rewriting (book_for a b r) laws c (sound s) kd B (pair p q 0 (rule_for r)) act n count r.arities ar ps (1024 + turn p q) (1025 - turn p q) (ltb (turn p q) n) (ltb (1 - turn p q) n) seats room d W.relinked people kdd new_kind old_kind
+  makeshift = is_rewriting (book_for a b r) laws c (sound s) kd B (pair p q 0 (rule_for r)) act n count (arities_of r) ar ps (1024 + turn p q) (1025 - turn p q) (ltb (turn p q) n) (ltb (1 - turn p q) n) seats room d W.relinked people kdd new_kind old_kind
 
   pub few_loops : d.loops < 2 ^ 30
   few_loops =
@@ -351,10 +355,10 @@ module _ (s : Table) (p q : ℕ) (r : RuleTable) (Y : Replaceable s p q r) (d : 
       omega arith
 
   twice : (x : Spot) → mate_of d (mate_of d x) ≡ x
-  twice = twice_after (book_for a b r) laws c (sound s) kd B (pair p q 0 (rule_for r)) act n count r.arities ar ps (1024 + turn p q) (1025 - turn p q) (ltb (turn p q) n) (ltb (1 - turn p q) n) seats room d W.relinked people kdd new_kind old_kind
+  twice = twice_after (book_for a b r) laws c (sound s) kd B (pair p q 0 (rule_for r)) act n count (arities_of r) ar ps (1024 + turn p q) (1025 - turn p q) (ltb (turn p q) n) (ltb (1 - turn p q) n) seats room d W.relinked people kdd new_kind old_kind
 
   linked : (x : Spot) → there d x ≡ true → mate_of d x ≢ x
-  linked = linked_after (book_for a b r) laws c (sound s) kd B (pair p q 0 (rule_for r)) act n count r.arities ar ps (1024 + turn p q) (1025 - turn p q) (ltb (turn p q) n) (ltb (1 - turn p q) n) seats room d W.relinked people kdd new_kind old_kind
+  linked = linked_after (book_for a b r) laws c (sound s) kd B (pair p q 0 (rule_for r)) act n count (arities_of r) ar ps (1024 + turn p q) (1025 - turn p q) (ltb (turn p q) n) (ltb (1 - turn p q) n) seats room d W.relinked people kdd new_kind old_kind
 
   -- by slots again
   in_use : (k : ℕ) → is_used d.arities d.occupied d.ends k ≡ true → there d (decode k) ≡ true
@@ -378,9 +382,6 @@ module _ (s : Table) (p q : ℕ) (r : RuleTable) (Y : Replaceable s p q r) (d : 
       ∙ ap code (sym (next (goal d.links k) (slots_standing k h)) ∙ ap (mate_of d) (sym (next k h)) ∙ twice (decode k))
       ∙ code_decode k
 
-  pub whole_links : Whole d.links
-  whole_links = W.relinked.right.whole
-
   pub few_ports : (x : ℕ) → get_or d.arities x 0 ≤ 2
   few_ports x = elim (is_seat (seat ps) n x) [
     | inl t ↦ (let e = ap (λ (x : ℕ). get_or d.arities x 0) t.2 in let f = W.arities.new t.0 t.1 in let g = F.arities t.0 t.1 in omega arith)
@@ -401,32 +402,32 @@ module _ (s : Table) (p q : ℕ) (r : RuleTable) (Y : Replaceable s p q r) (d : 
     BK : Booked K (content s) kc
     BK x h = OB x (kc x) (kind_is c kc x h) ∙ some_arity c x h
 
-    relinked : Relinked (content s) p q r.cells w.wires W.ps (1024 + turn p q) (1025 - turn p q) (ltb (turn p q) r.cells) (ltb (1 - turn p q) r.cells) d.links d.loops
-    relinked = subst (λ (ws : List (RulePort × RulePort)). Relinked c p q n ws ps (1024 + turn p q) (1025 - turn p q) (ltb (turn p q) n) (ltb (1 - turn p q) n) d.links d.loops) D.joins W.relinked
+    relinked : Relinked (content s) p q (length r.cells.now) w.wires W.ps (1024 + turn p q) (1025 - turn p q) (ltb (turn p q) (length r.cells.now)) (ltb (1 - turn p q) (length r.cells.now)) d.links d.loops
+    relinked = subst (λ (ws : List (RulePort × RulePort)). Relinked c p q n ws ps (1024 + turn p q) (1025 - turn p q) (ltb (turn p q) n) (ltb (1 - turn p q) n) d.links d.loops) D.wires W.relinked
 
     room_K : Room w.wires W.ps
-    room_K = subst (λ (ws : List (RulePort × RulePort)). Room ws ps) D.joins room
+    room_K = subst (λ (ws : List (RulePort × RulePort)). Room ws ps) D.wires room
 
-    within : (j k : ℕ) → slice_get w.cells j ≡ Some k → j < r.cells
-    within j k e = let z = nth_within w.cells j k e in let y = D.cells in omega arith
+    within : (j k : ℕ) → slice_get w.cells j ≡ Some k → j < length r.cells.now
+    within j k e = let z = nth_within w.cells j k e in let y = cells_same K r w D in omega arith
 
     new_K : (j k : ℕ) → slice_get w.cells j ≡ Some k → ke (seat W.ps j) ≡ k
     new_K j k e = W.kinds.new j (within j k e) ∙ cell_kind K r w D j k e
 
-    old_K : (x : ℕ) → x ≢ p → x ≢ q → ((j : ℕ) → j < r.cells → x ≢ seat W.ps j) → ke x ≡ kc x
+    old_K : (x : ℕ) → x ≢ p → x ≢ q → ((j : ℕ) → j < length r.cells.now → x ≢ seat W.ps j) → ke x ≡ kc x
     old_K x _ _ o = W.kinds.other x o
 
     pub rewriting_K : Rewriting K (net s) (pair p q i w) (seat W.ps) (net_of d)
-    rewriting_K = is_rewriting K lw c (sound s) kc BK (pair p q i w) ac n (sym D.cells) r.arities (cell_arity_of K r w D) ps (1024 + turn p q) (1025 - turn p q) (ltb (turn p q) n) (ltb (1 - turn p q) n) seats room_K d relinked people ke new_K old_K
+    rewriting_K = is_rewriting K lw c (sound s) kc BK (pair p q i w) ac n (sym (cells_same K r w D)) (arities_of r) (cell_arity_of K r w D) ps (1024 + turn p q) (1025 - turn p q) (ltb (turn p q) n) (ltb (1 - turn p q) n) seats room_K d relinked people ke new_K old_K
 
     pub of_book_K : (x k : ℕ) → kind_at d x ≡ Some k → K.arity k ≡ arity_at d x
     of_book_K x k e =
         let t = kind_some d ke x k e in
-        let bk = booked K lw c (sound s) kc BK (pair p q i w) ac n (sym D.cells) r.arities (cell_arity_of K r w D) ps (1024 + turn p q) (1025 - turn p q) (ltb (turn p q) n) (ltb (1 - turn p q) n) seats room_K d relinked people ke new_K old_K in
+        let bk = booked K lw c (sound s) kc BK (pair p q i w) ac n (sym (cells_same K r w D)) (arities_of r) (cell_arity_of K r w D) ps (1024 + turn p q) (1025 - turn p q) (ltb (turn p q) n) (ltb (1 - turn p q) n) seats room_K d relinked people ke new_K old_K in
         ap K.arity (sym t.1) ∙ bk x t.0 ∙ sym (some_arity d x t.0)
 
     pub seats_K : Seats (net s) (pair p q i w) (seat W.ps)
     seats_K = record {
       low = λ j k e. PL.low j (within j k e);
-      free = free K lw c (sound s) kc BK (pair p q i w) ac n (sym D.cells) r.arities (cell_arity_of K r w D) ps (1024 + turn p q) (1025 - turn p q) (ltb (turn p q) n) (ltb (1 - turn p q) n) seats room_K d relinked people ke new_K old_K;
+      free = free K lw c (sound s) kc BK (pair p q i w) ac n (sym (cells_same K r w D)) (arities_of r) (cell_arity_of K r w D) ps (1024 + turn p q) (1025 - turn p q) (ltb (turn p q) n) (ltb (1 - turn p q) n) seats room_K d relinked people ke new_K old_K;
     }

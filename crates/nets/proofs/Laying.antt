@@ -1,57 +1,30 @@
 -- The wires of a rule laid into the links one after the other. Assumes nothing.
-use Rattle.std.proofs.Common.{◌≡◌, ℕ, zero, suc, ◌+◌, ◌*◌, ◌<◌, ◌≤◌, Bool, false, cond, eqb, ◌≢◌, ◌⊎◌, List, [], ◌∷◌, length, get_or, set, Some, sym, refl, ap, ◌∙◌, subst, ap₂, inl, inr, arith, length-set}
+use Rattle.std.proofs.Common.{◌≡◌, ℕ, ◌+◌, ◌<◌, ◌≤◌, ◌≢◌, ◌⊎◌, List, length, set, Some, sym, refl, ap, ◌∙◌, subst, inl, inr, arith, length-set}
 use Rattle.std.specs.List.{slice_get}
 use Rattle.std.proofs.lemmas.Bool.{cases_eq}
-use Rattle.calculus.specs.Books.{RulePort, L, R, N, Wired}
-use Rattle.books.specs.Tables.{port_of}
+use Rattle.calculus.specs.Books.{RulePort, Wired}
 use Rattle.nets.specs.declared.link.Link.{Link}
 use Rattle.nets.specs.Layout.{slots, slot_of, goal}
-use Rattle.nets.specs.ByBook.{seat}
 use Rattle.nets.specs.Noting.{Tied}
-use Rattle.nets.specs.Rewiring.{Whole, Known, seat_of, Room, Laying, Laid}
+use Rattle.nets.specs.Rewiring.{Known, seat_of, Room, Laying, Laid}
 use Rattle.nets.proofs.Notings.{tied_wired, wired_tied}
-use Rattle.nets.proofs.Slots.{goal_same, goal_other, whole_set}
+use Rattle.nets.proofs.Slots.{Whole, goal_same, goal_other}
 
-pub known_row : (row j : ℕ) → Known (port_of row j) → row < 6
-known_row row j k = go (cases_eq row 4) (cases_eq row 5)
-  where
-    go : (row ≡ 4) ⊎ (row ≢ 4) → (row ≡ 5) ⊎ (row ≢ 5) → row < 6
-    go (inl e) y = omega arith
-    go (inr n) (inl e) = omega arith
-    go (inr n) (inr o) =
-        let p : eqb row 4 ≡ false = grind (arith) in
-        let q : eqb row 5 ≡ false = grind (arith) in
-        let z : row < 4 = subst Known (ap₂ (λ (s t : Bool). cond s (L j) (cond t (R j) (N row j))) p q) k in
-        omega arith
-
--- the rows of the rule as the code holds them
-pub at_row : (ps : List ℕ) (row j : ℕ) → row < 6 →
-    get_or (seat ps 0 ∷ seat ps 1 ∷ seat ps 2 ∷ seat ps 3 ∷ 1028 ∷ 1029 ∷ []) row 0 * 4 + j ≡ seat_of ps (port_of row j)
-at_row ps zero j h = refl
-at_row ps (suc zero) j h = refl
-at_row ps (suc (suc zero)) j h = refl
-at_row ps (suc (suc (suc zero))) j h = refl
-at_row ps (suc (suc (suc (suc zero)))) j h = refl
-at_row ps (suc (suc (suc (suc (suc zero))))) j h = refl
-at_row ps (suc (suc (suc (suc (suc (suc row)))))) j h = absurd (omega arith)
-
--- the rows of a wire are the rule's
-pub wire_rows : (ws : List (RulePort × RulePort)) (ps : List ℕ) → Room ws ps → (n r j s k : ℕ) → slice_get ws n ≡ Some (port_of r j, port_of s k) → (r < 6) × (s < 6)
-wire_rows ws ps G n r j s k e = (
-  known_row r j (G.known (port_of r j) (port_of s k) (tied_wired ws (n + 1) (port_of r j) (port_of s k) (n, (port_of r j, port_of s k), omega arith, e, inl (refl, refl)))),
-  known_row s k (G.known (port_of s k) (port_of r j) (tied_wired ws (n + 1) (port_of s k) (port_of r j) (n, (port_of r j, port_of s k), omega arith, e, inr (refl, refl)))),
+-- both ports of a wire are the rule's
+pub known_both : (ws : List (RulePort × RulePort)) (ps : List ℕ) → Room ws ps → (n : ℕ) (u v : RulePort) → slice_get ws n ≡ Some (u, v) → Known u × Known v
+known_both ws ps G n u v e = (
+  G.known u v (tied_wired ws (n + 1) u v (n, (u, v), omega arith, e, inl (refl, refl))),
+  G.known v u (tied_wired ws (n + 1) v u (n, (u, v), omega arith, e, inr (refl, refl))),
 )
 
-pub laid_none : (xs : List Link) (ws : List (RulePort × RulePort)) (ps : List ℕ) → Whole xs → Laying xs ws ps 0 xs
-laid_none xs ws ps W = record {
-  whole = W;
+pub laid_none : (xs : List Link) (ws : List (RulePort × RulePort)) (ps : List ℕ) → Laying xs ws ps 0 xs
+laid_none xs ws ps = record {
   here = λ x y t. absurd (let h = t.2 in omega arith);
   other = λ k h. refl;
 }
 
 pub laid_all : (xs ys : List Link) (ws : List (RulePort × RulePort)) (ps : List ℕ) (n : ℕ) → length ws ≤ n → Laying xs ws ps n ys → Laid xs ws ps ys
 laid_all xs ys ws ps n h A = record {
-  whole = A.whole;
   here = λ x y w. A.here x y (wired_tied ws n x y h w);
   other = λ k f. A.other k (λ x y t. f x y (tied_wired ws n x y t));
 }
@@ -73,9 +46,8 @@ module _ (ws : List (RulePort × RulePort)) (ps : List ℕ) (G : Room ws ps) whe
     pub to_small : seat_of ps v < slots
     to_small = seat_small v u vu
 
-    pub laid_more : (a b : Link) → slot_of a ≡ seat_of ps u → slot_of b ≡ seat_of ps v → Laying xs ws ps (n + 1) (set (set ys (slot_of a) b) (slot_of b) a)
-    laid_more a b ea eb = record {
-      whole = whole_set mid (slot_of b) a (whole_set ys (slot_of a) b A.whole (let z = to_small in omega arith)) (let z = from_small in omega arith);
+    pub laid_more : (a b : Link) → Whole ys → slot_of a ≡ seat_of ps u → slot_of b ≡ seat_of ps v → Laying xs ws ps (n + 1) (set (set ys (slot_of a) b) (slot_of b) a)
+    laid_more a b W ea eb = record {
       here = here;
       other = λ k h.
           goal_other mid (slot_of b) a k (λ z. h v u (n, (u, v), omega arith, at, inr (refl, refl)) (z ∙ eb))
@@ -90,10 +62,10 @@ module _ (ws : List (RulePort × RulePort)) (ps : List ℕ) (G : Room ws ps) whe
         zs = set (set ys (slot_of a) b) (slot_of b) a
 
         la : slot_of a < length ys
-        la = let z = from_small in let l = A.whole.long in omega arith
+        la = let z = from_small in let l = W.long in omega arith
 
         lb : slot_of b < length (set ys (slot_of a) b)
-        lb = simp length-set (let z = to_small in let l = A.whole.long in omega arith)
+        lb = simp length-set (let z = to_small in let l = W.long in omega arith)
 
         at_v : goal (set (set ys (slot_of a) b) (slot_of b) a) (seat_of ps v) ≡ seat_of ps u
         at_v = ap (goal zs) (sym eb) ∙ goal_same mid (slot_of b) a lb ∙ ea

@@ -19,6 +19,8 @@ pub mod Reworking
 pub mod Makeshift
 pub mod Loops
 pub mod Seatings
+pub mod Filling
 pub mod Finishing
+pub mod Indexing
 pub mod Suiting
 pub mod Readiness

@@ -5,7 +5,7 @@ use Rattle.std.proofs.lemmas.Bool.{cases_eq, cases_lt}
 use Rattle.calculus.specs.Books.{RulePort, L, R, N, Rule, RuleBook, Leaving, Entering, RuleLaws, Laws}
 use Rattle.calculus.proofs.Tests.{nth_within}
 use Rattle.books.specs.declared.table.RuleTable.{RuleTable}
-use Rattle.books.specs.Tables.{wires_of}
+use Rattle.books.specs.Tables.{arities_of, wires_of}
 use Rattle.nets.specs.Fitting.{Paired, Fitting}
 
 -- f of each number below n
@@ -27,7 +27,7 @@ abbrev pub arity_of : ℕ → ℕ → ℕ → Option ℕ
 arity_of a b k = cond (eqb k 0) (Some a) (cond (eqb k 1) (Some b) (cond (leb k 4) (Some (k - 2)) None))
 
 abbrev pub rule_for : RuleTable → Rule
-rule_for r = record { left = 0; right = 1; cells = listing (λ i. 2 + get_or r.arities i 0) r.cells; wires = wires_of r }
+rule_for r = record { left = 0; right = 1; cells = listing (λ i. 2 + get_or (arities_of r) i 0) (length r.cells.now); wires = wires_of r }
 
 abbrev pub book_for : ℕ → ℕ → RuleTable → RuleBook
 book_for a b r = record { number = 0; arity = arity_of a b; rules = rule_for r ∷ [] }
@@ -65,14 +65,14 @@ module _ (a b : ℕ) where
           (omega arith, omega arith)
 
   module _ (r : RuleTable) (F : Fitting a b r) (ha : a ≤ 2) (hb : b ≤ 2) where
-    pub cell_arity : (i k : ℕ) → slice_get (rule_for r).cells i ≡ Some k → (i < r.cells) × (k ≡ 2 + get_or r.arities i 0) × (arity_of a b k ≡ Some (get_or r.arities i 0))
+    pub cell_arity : (i k : ℕ) → slice_get (rule_for r).cells i ≡ Some k → (i < length r.cells.now) × (k ≡ 2 + get_or (arities_of r) i 0) × (arity_of a b k ≡ Some (get_or (arities_of r) i 0))
     cell_arity i k e =
         let h = nth_within (rule_for r).cells i k e in
-        let l = listing_long (λ i. 2 + get_or r.arities i 0) r.cells in
-        let m : i < r.cells = omega arith in
-        let f : Some k ≡ Some (2 + get_or r.arities i 0) = sym e ∙ listed (λ i. 2 + get_or r.arities i 0) r.cells i m in
-        let g : k ≡ 2 + get_or r.arities i 0 = cc in
-        (m, g, ap (arity_of a b) g ∙ arity_else (get_or r.arities i 0) (F.arities i m))
+        let l = listing_long (λ i. 2 + get_or (arities_of r) i 0) (length r.cells.now) in
+        let m : i < length r.cells.now = omega arith in
+        let f : Some k ≡ Some (2 + get_or (arities_of r) i 0) = sym e ∙ listed (λ i. 2 + get_or (arities_of r) i 0) (length r.cells.now) i m in
+        let g : k ≡ 2 + get_or (arities_of r) i 0 = cc in
+        (m, g, ap (arity_of a b) g ∙ arity_else (get_or (arities_of r) i 0) (F.arities i m))
 
     to_paired : (x : RulePort) → Leaving (book_for a b r) (rule_for r) x ⊎ Entering (book_for a b r) (rule_for r) x → Paired a b r x
     to_paired (L j) (inl (h, (c, e, l))) = let g : a ≡ c = cc in (h, omega arith)
@@ -82,24 +82,24 @@ module _ (a b : ℕ) where
     to_paired (N i j) (inl h) = absurd h
     to_paired (N i j) (inr (k, e, (c, f, l))) =
         let t = cell_arity i k e in
-        let g : Some c ≡ Some (get_or r.arities i 0) = sym f ∙ t.2 in
-        let z : c ≡ get_or r.arities i 0 = cc in
+        let g : Some c ≡ Some (get_or (arities_of r) i 0) = sym f ∙ t.2 in
+        let z : c ≡ get_or (arities_of r) i 0 = cc in
         (t.0, omega arith)
 
     of_paired : (x : RulePort) → Paired a b r x → Leaving (book_for a b r) (rule_for r) x ⊎ Entering (book_for a b r) (rule_for r) x
     of_paired (L j) h = inl (h.0, (a, refl, h.1))
     of_paired (R j) h = inl (h.0, (b, refl, h.1))
     of_paired (N i j) h =
-        let e = listed (λ i. 2 + get_or r.arities i 0) r.cells i h.0 in
-        inr (2 + get_or r.arities i 0, e, (get_or r.arities i 0, arity_else (get_or r.arities i 0) (F.arities i h.0), h.1))
+        let e = listed (λ i. 2 + get_or (arities_of r) i 0) (length r.cells.now) i h.0 in
+        inr (2 + get_or (arities_of r) i 0, e, (get_or (arities_of r) i 0, arity_else (get_or (arities_of r) i 0) (F.arities i h.0), h.1))
 
     laws_of_rule : RuleLaws (book_for a b r) (rule_for r)
     laws_of_rule = record {
       order = omega arith;
       left_kind = (a, refl, omega arith);
       right_kind = (b, refl, omega arith);
-      few = (let l = listing_long (λ i. 2 + get_or r.arities i 0) r.cells in let f = F.few in omega arith);
-      cell_kinds = λ i k e. (get_or r.arities i 0, (cell_arity i k e).2, omega arith);
+      few = (let l = listing_long (λ i. 2 + get_or (arities_of r) i 0) (length r.cells.now) in let f = F.few in omega arith);
+      cell_kinds = λ i k e. (get_or (arities_of r) i 0, (cell_arity i k e).2, omega arith);
       pairs_all = λ x h. F.pairs_all x (to_paired x h);
       pairs_only = λ x y w. of_paired x (F.pairs_only x y w);
       with_one = F.with_one;

@@ -1,29 +1,19 @@
 -- That the notes of a rule's wires tell whether its table fits. Assumes nothing.
-use Rattle.std.proofs.Common.{◌≡◌, ℕ, zero, suc, ◌+◌, ◌*◌, ◌<◌, ◌≤◌, Bool, true, false, cond, eqb, ◌≢◌, ◌⊎◌, List, [], ◌∷◌, length, get_or, take, set, replicate, Some, None, sym, refl, ap, ◌∙◌, subst, ap₂, inl, inr, arith, length-set, length-take, get_or-set_other, get_or-set_same}
+use Rattle.std.proofs.Common.{◌≡◌, ℕ, zero, suc, ◌+◌, ◌-◌, ◌*◌, ◌<◌, ◌≤◌, Bool, true, false, not, eqb, ◌≢◌, ◌⊎◌, List, [], ◌∷◌, map, length, leb, get_or, take, drop, set, replicate, Some, None, Option, sym, refl, ap, ◌∙◌, subst, ap₂, inl, inr, arith, length-set, length-take, get_or-set_other, get_or-set_same}
 use lib.ListN.{length-replicate, get_or-replicate}
 use Rattle.std.specs.List.{slice_get}
-use Rattle.std.proofs.lemmas.List.{length-map}
-use Rattle.std.proofs.lemmas.Bool.{cases_eq, cases_lt}
+use Rattle.std.proofs.lemmas.List.{get_or-take, get_or-drop, length-drop}
+use Rattle.std.specs.List.{list_all, IsAnyAnswer}
+use Rattle.std.specs.Option.{option_eq}
+use Rattle.std.proofs.lemmas.Bool.{cases_eq, both_ways, and_parts, and_from, leb-true, le-leb}
 use Rattle.calculus.specs.Books.{RulePort, L, R, N, Wired}
-use Rattle.calculus.proofs.Lawful.{wired_back}
 use Rattle.calculus.proofs.Wiring.{rule_port}
 use Rattle.calculus.proofs.Tests.{nth_within}
-use Rattle.calculus.proofs.Places.{nth_some}
+use Rattle.books.specs.declared.table.NewCell.{NewCell}
 use Rattle.books.specs.declared.table.RuleTable.{RuleTable}
-use Rattle.books.specs.Tables.{port_of, wire_of, wires_of}
+use Rattle.books.specs.Tables.{arities_of, wires_of}
 use Rattle.nets.specs.Fitting.{Paired, Fitting, Told}
 use Rattle.nets.specs.Noting.{Small, note_of, Noted, Tied, Marked, Full, FullRow}
-
-pub note_at : (row j : ℕ) → note_of (port_of row j) ≡ row * 4 + j
-note_at row j = go (cases_eq row 4) (cases_eq row 5)
-  where
-    go : (row ≡ 4) ⊎ (row ≢ 4) → (row ≡ 5) ⊎ (row ≢ 5) → note_of (port_of row j) ≡ row * 4 + j
-    go (inl e) y = ap (λ (r : ℕ). note_of (port_of r j)) e ∙ (omega arith)
-    go (inr n) (inl e) = ap (λ (r : ℕ). note_of (port_of r j)) e ∙ (omega arith)
-    go (inr n) (inr o) =
-        let p : eqb row 4 ≡ false = grind (arith) in
-        let q : eqb row 5 ≡ false = grind (arith) in
-        ap₂ (λ (s t : Bool). note_of (cond s (L j) (cond t (R j) (N row j)))) p q
 
 pub told_same : (P Q : Type 0) (b : Bool) → (P → Q) → (Q → P) → Told P b → Told Q b
 told_same P Q true f g t = f t
@@ -54,17 +44,7 @@ wired_tied ws n x y h w = let t = go ws w in (t.0, t.1, (let z = nth_within ws t
     go (q ∷ ws) (inr (inl t)) = (0, q, refl, inr t)
     go (q ∷ ws) (inr (inr w)) = let t = go ws w in (suc t.0, t.1, t.2, t.3)
 
--- past the last wire
-pub past_none : (ws : List (RulePort × RulePort)) (i : ℕ) → None ≡ slice_get ws i → length ws ≤ i
-past_none ws i e = elim (cases_lt i (length ws)) [
-  | inl h ↦ (let t = nth_some ws i h in let f = t.1 in absurd (let z : ◌≡◌ {A = ℕ} 0 1 = cc in omega arith))
-  | inr h ↦ h
-]
-
-pub wires_few : (r : RuleTable) → length (wires_of r) ≤ r.wires
-wires_few r = let e = length-map (take r.wires r.joins) wire_of in let f = length-take r.wires r.joins in omega arith
-
-module _ (a b : ℕ) (r : RuleTable) (few : r.cells ≤ 4) (small : Small r) (ha : a ≤ 2) (hb : b ≤ 2) where
+module _ (a b : ℕ) (r : RuleTable) (few : length r.cells.now ≤ 4) (small : Small r) (ha : a ≤ 2) (hb : b ≤ 2) where
   pub note_small : (x : RulePort) → Paired a b r x → note_of x < 24
   note_small (L j) h = omega (arith, h.0, h.1)
   note_small (R j) h = omega (arith, h.0, h.1)
@@ -86,29 +66,29 @@ module _ (a b : ℕ) (r : RuleTable) (few : r.cells ≤ 4) (small : Small r) (ha
       let y : i ≡ j = omega (arith, h.1, k.1) in
       ap₂ N z y
 
-  pub marked_none : (mates : List ℕ) → mates ≡ replicate 24 24 → Marked a b r (wires_of r) 0 mates
+  pub marked_none : (mates : List (Option ℕ)) → mates ≡ replicate 24 None → Marked a b r (wires_of r) 0 mates
   marked_none mates e = record {
-    long = ap length e ∙ length-replicate {A = ℕ} 24 24;
+    long = ap length e ∙ length-replicate {A = Option ℕ} 24 None;
     tied = λ x y t. absurd (let h = t.2 in omega arith);
-    free = λ x h. inl (ap (λ (ms : List ℕ). get_or ms (note_of x) 0) e ∙ get_or-replicate {A = ℕ} 24 (note_of x) 24 0 (note_small x h));
+    free = λ x h. inl (ap (λ (ms : List (Option ℕ)). get_or ms (note_of x) None) e ∙ get_or-replicate {A = Option ℕ} 24 (note_of x) None None (note_small x h));
   }
 
-  module _ (ws : List (RulePort × RulePort)) (n : ℕ) (mates : List ℕ) (M : Marked a b r ws n mates) (u v : RulePort) (at : slice_get ws n ≡ Some (u, v)) (pu : Paired a b r u) (pv : Paired a b r v) where
+  module _ (ws : List (RulePort × RulePort)) (n : ℕ) (mates : List (Option ℕ)) (M : Marked a b r ws n mates) (u v : RulePort) (at : slice_get ws n ≡ Some (u, v)) (pu : Paired a b r u) (pv : Paired a b r v) where
     now_tied : Tied ws (n + 1) u v
     now_tied = (n, (u, v), omega arith, at, inl (refl, refl))
 
     tied_now : Tied ws (n + 1) v u
     tied_now = (n, (u, v), omega arith, at, inr (refl, refl))
 
-    pub marked_more : (ns : List ℕ) → Noted mates (note_of u) (note_of v) ns true → Marked a b r ws (n + 1) ns
+    pub marked_more : (ns : List (Option ℕ)) → Noted mates (note_of u) (note_of v) ns true → Marked a b r ws (n + 1) ns
     marked_more ns (uv, gu, gv, e) = record {
       long = ap length e ∙ simp length-set M.long;
       tied = tied;
       free = free;
     }
       where
-        ms : List ℕ
-        ms = set mates (note_of u) (note_of v)
+        ms : List (Option ℕ)
+        ms = set mates (note_of u) (Some (note_of v))
 
         lu : note_of u < 24
         lu = note_small u pu
@@ -116,55 +96,49 @@ module _ (a b : ℕ) (r : RuleTable) (few : r.cells ≤ 4) (small : Small r) (ha
         lv : note_of v < 24
         lv = note_small v pv
 
-        at_v : get_or ns (note_of v) 0 ≡ note_of u
+        at_v : get_or ns (note_of v) None ≡ Some (note_of u)
         at_v =
-            ap (λ (xs : List ℕ). get_or xs (note_of v) 0) e
-            ∙ get_or-set_same (set mates (note_of u) (note_of v)) (note_of v) (note_of u) 0 (simp length-set (let l = M.long in let k = lv in omega arith))
+            ap (λ (xs : List (Option ℕ)). get_or xs (note_of v) None) e
+            ∙ get_or-set_same (set mates (note_of u) (Some (note_of v))) (note_of v) (Some (note_of u)) None (simp length-set (let l = M.long in let k = lv in omega arith))
 
-        at_u : get_or ns (note_of u) 0 ≡ note_of v
+        at_u : get_or ns (note_of u) None ≡ Some (note_of v)
         at_u =
-            ap (λ (xs : List ℕ). get_or xs (note_of u) 0) e
-            ∙ get_or-set_other (set mates (note_of u) (note_of v)) (note_of v) (note_of u) (note_of u) 0 uv
-            ∙ get_or-set_same mates (note_of u) (note_of v) 0 (let l = M.long in let k = lu in omega arith)
+            ap (λ (xs : List (Option ℕ)). get_or xs (note_of u) None) e
+            ∙ get_or-set_other (set mates (note_of u) (Some (note_of v))) (note_of v) (note_of u) (Some (note_of u)) None uv
+            ∙ get_or-set_same mates (note_of u) (Some (note_of v)) None (let l = M.long in let k = lu in omega arith)
 
-        at_else : (s : ℕ) → s ≢ note_of u → s ≢ note_of v → get_or ns s 0 ≡ get_or mates s 0
+        at_else : (s : ℕ) → s ≢ note_of u → s ≢ note_of v → get_or ns s None ≡ get_or mates s None
         at_else s i j =
-            ap (λ (xs : List ℕ). get_or xs s 0) e ∙ get_or-set_other (set mates (note_of u) (note_of v)) (note_of v) s (note_of u) 0 j
-            ∙ get_or-set_other mates (note_of u) s (note_of v) 0 i
+            ap (λ (xs : List (Option ℕ)). get_or xs s None) e ∙ get_or-set_other (set mates (note_of u) (Some (note_of v))) (note_of v) s (Some (note_of u)) None j
+            ∙ get_or-set_other mates (note_of u) s (Some (note_of v)) None i
 
-        agree : (s t m : ℕ) → (get_or mates s 0 ≡ 24) ⊎ (get_or mates s 0 ≡ t) → get_or mates s 0 ≡ m → m < 24 → t ≡ m
-        agree s t m (inl z) g h = absurd (omega arith)
-        agree s t m (inr z) g h = sym z ∙ g
+        agree : (s t m : ℕ) → (get_or mates s None ≡ None) ⊎ (get_or mates s None ≡ Some t) → get_or mates s None ≡ Some m → Some t ≡ Some m
+        agree s t m (inl z) g = absurd (let o : ◌≡◌ {A = ℕ} 0 1 = cc in omega arith)
+        agree s t m (inr z) g = sym z ∙ g
 
-        old : (x y : RulePort) → Tied ws n x y → Paired a b r x × (x ≢ y) × (get_or ns (note_of x) 0 ≡ note_of y)
+        old : (x y : RulePort) → Tied ws n x y → Paired a b r x × (x ≢ y) × (get_or ns (note_of x) None ≡ Some (note_of y))
         old x y t = go (cases_eq (note_of x) (note_of u)) (cases_eq (note_of x) (note_of v))
           where
-            m : Paired a b r x × (x ≢ y) × (get_or mates (note_of x) 0 ≡ note_of y)
+            m : Paired a b r x × (x ≢ y) × (get_or mates (note_of x) None ≡ Some (note_of y))
             m = M.tied x y t
 
-            back : Tied ws n y x
-            back = (t.0, t.1, t.2, t.3, elim t.4 [ inl z ↦ inr (z.1, z.0) | inr z ↦ inl (z.1, z.0) ])
-
-            ly : note_of y < 24
-            ly = note_small y (M.tied y x back).0
-
-            go : (note_of x ≡ note_of u) ⊎ (note_of x ≢ note_of u) → (note_of x ≡ note_of v) ⊎ (note_of x ≢ note_of v) → Paired a b r x × (x ≢ y) × (get_or ns (note_of x) 0 ≡ note_of y)
+            go : (note_of x ≡ note_of u) ⊎ (note_of x ≢ note_of u) → (note_of x ≡ note_of v) ⊎ (note_of x ≢ note_of v) → Paired a b r x × (x ≢ y) × (get_or ns (note_of x) None ≡ Some (note_of y))
             go (inl z) q =
-                (m.0, m.1, ap (λ (s : ℕ). get_or ns s 0) z ∙ at_u ∙ agree (note_of u) (note_of v) (note_of y) gu (ap (λ (s : ℕ). get_or mates s 0) (sym z) ∙ m.2) ly)
+                (m.0, m.1, ap (λ (s : ℕ). get_or ns s None) z ∙ at_u ∙ agree (note_of u) (note_of v) (note_of y) gu (ap (λ (s : ℕ). get_or mates s None) (sym z) ∙ m.2))
             go (inr o) (inl z) =
-                (m.0, m.1, ap (λ (s : ℕ). get_or ns s 0) z ∙ at_v ∙ agree (note_of v) (note_of u) (note_of y) gv (ap (λ (s : ℕ). get_or mates s 0) (sym z) ∙ m.2) ly)
+                (m.0, m.1, ap (λ (s : ℕ). get_or ns s None) z ∙ at_v ∙ agree (note_of v) (note_of u) (note_of y) gv (ap (λ (s : ℕ). get_or mates s None) (sym z) ∙ m.2))
             go (inr o) (inr z) = (m.0, m.1, at_else (note_of x) o z ∙ m.2)
 
-        new : (x y : RulePort) → ((x ≡ u) × (y ≡ v)) ⊎ ((x ≡ v) × (y ≡ u)) → Paired a b r x × (x ≢ y) × (get_or ns (note_of x) 0 ≡ note_of y)
+        new : (x y : RulePort) → ((x ≡ u) × (y ≡ v)) ⊎ ((x ≡ v) × (y ≡ u)) → Paired a b r x × (x ≢ y) × (get_or ns (note_of x) None ≡ Some (note_of y))
         new x y (inl (e, f)) =
-            (subst (Paired a b r) (sym e) pu, (λ z. uv (ap note_of (sym e ∙ z ∙ f))), ap (λ (x : RulePort). get_or ns (note_of x) 0) e ∙ at_u ∙ ap note_of (sym f))
+            (subst (Paired a b r) (sym e) pu, (λ z. uv (ap note_of (sym e ∙ z ∙ f))), ap (λ (x : RulePort). get_or ns (note_of x) None) e ∙ at_u ∙ ap (λ (x : RulePort). Some (note_of x)) (sym f))
         new x y (inr (e, f)) =
-            (subst (Paired a b r) (sym e) pv, (λ z. uv (ap note_of (sym f ∙ sym z ∙ e))), ap (λ (x : RulePort). get_or ns (note_of x) 0) e ∙ at_v ∙ ap note_of (sym f))
+            (subst (Paired a b r) (sym e) pv, (λ z. uv (ap note_of (sym f ∙ sym z ∙ e))), ap (λ (x : RulePort). get_or ns (note_of x) None) e ∙ at_v ∙ ap (λ (x : RulePort). Some (note_of x)) (sym f))
 
-        tied : (x y : RulePort) → Tied ws (n + 1) x y → Paired a b r x × (x ≢ y) × (get_or ns (note_of x) 0 ≡ note_of y)
+        tied : (x y : RulePort) → Tied ws (n + 1) x y → Paired a b r x × (x ≢ y) × (get_or ns (note_of x) None ≡ Some (note_of y))
         tied x y (k, p, h, e, t) = go (cases_eq k n)
           where
-            go : (k ≡ n) ⊎ (k ≢ n) → Paired a b r x × (x ≢ y) × (get_or ns (note_of x) 0 ≡ note_of y)
+            go : (k ≡ n) ⊎ (k ≢ n) → Paired a b r x × (x ≢ y) × (get_or ns (note_of x) None ≡ Some (note_of y))
             go (inl z) =
                 let q : Some p ≡ Some (u, v) = sym e ∙ ap (slice_get ws) z ∙ at in
                 let pp : p ≡ (u, v) = cc in
@@ -173,10 +147,10 @@ module _ (a b : ℕ) (r : RuleTable) (few : r.cells ≤ 4) (small : Small r) (ha
                 new x y (elim t [ inl s ↦ inl (s.0 ∙ p0, s.1 ∙ p1) | inr s ↦ inr (s.0 ∙ p1, s.1 ∙ p0) ])
             go (inr o) = old x y (k, p, omega arith, e, t)
 
-        free : (x : RulePort) → Paired a b r x → (get_or ns (note_of x) 0 ≡ 24) ⊎ ((y : RulePort) × Tied ws (n + 1) x y)
+        free : (x : RulePort) → Paired a b r x → (get_or ns (note_of x) None ≡ None) ⊎ ((y : RulePort) × Tied ws (n + 1) x y)
         free x h = go (rule_port x u) (rule_port x v)
           where
-            go : (x ≡ u) ⊎ (x ≢ u) → (x ≡ v) ⊎ (x ≢ v) → (get_or ns (note_of x) 0 ≡ 24) ⊎ ((y : RulePort) × Tied ws (n + 1) x y)
+            go : (x ≡ u) ⊎ (x ≢ u) → (x ≡ v) ⊎ (x ≢ v) → (get_or ns (note_of x) None ≡ None) ⊎ ((y : RulePort) × Tied ws (n + 1) x y)
             go (inl z) q = inr (v, subst (λ (x : RulePort). Tied ws (n + 1) x v) (sym z) now_tied)
             go (inr o) (inl z) = inr (u, subst (λ (x : RulePort). Tied ws (n + 1) x u) (sym z) tied_now)
             go (inr o) (inr z) = elim (M.free x h) [
@@ -185,25 +159,28 @@ module _ (a b : ℕ) (r : RuleTable) (few : r.cells ≤ 4) (small : Small r) (ha
             ]
 
     -- a note that disagrees
-    pub agrees : Fitting a b r → ws ≡ wires_of r → (get_or mates (note_of u) 0 ≡ 24) ⊎ (get_or mates (note_of u) 0 ≡ note_of v)
+    pub agrees : Fitting a b r → ws ≡ wires_of r → (get_or mates (note_of u) None ≡ None) ⊎ (get_or mates (note_of u) None ≡ Some (note_of v))
     agrees F e = elim (M.free u pu) [
       | inl f ↦ inl f
       | inr t ↦
-          inr ((M.tied u t.0 t.1).2 ∙ ap note_of (F.with_one u t.0 v (subst (λ (ws : List (RulePort × RulePort)). Wired ws u t.0) e (tied_wired ws n u t.0 t.1)) (subst (λ (ws : List (RulePort × RulePort)). Wired ws u v) e (tied_wired ws (n + 1) u v now_tied))))
+          inr ((M.tied u t.0 t.1).2 ∙ ap (λ (x : RulePort). Some (note_of x)) (F.with_one u t.0 v (subst (λ (ws : List (RulePort × RulePort)). Wired ws u t.0) e (tied_wired ws n u t.0 t.1)) (subst (λ (ws : List (RulePort × RulePort)). Wired ws u v) e (tied_wired ws (n + 1) u v now_tied))))
     ]
 
-    pub agrees_back : Fitting a b r → ws ≡ wires_of r → (get_or mates (note_of v) 0 ≡ 24) ⊎ (get_or mates (note_of v) 0 ≡ note_of u)
+    pub agrees_back : Fitting a b r → ws ≡ wires_of r → (get_or mates (note_of v) None ≡ None) ⊎ (get_or mates (note_of v) None ≡ Some (note_of u))
     agrees_back F e = elim (M.free v pv) [
       | inl f ↦ inl f
       | inr t ↦
-          inr ((M.tied v t.0 t.1).2 ∙ ap note_of (F.with_one v t.0 u (subst (λ (ws : List (RulePort × RulePort)). Wired ws v t.0) e (tied_wired ws n v t.0 t.1)) (subst (λ (ws : List (RulePort × RulePort)). Wired ws v u) e (tied_wired ws (n + 1) v u tied_now))))
+          inr ((M.tied v t.0 t.1).2 ∙ ap (λ (x : RulePort). Some (note_of x)) (F.with_one v t.0 u (subst (λ (ws : List (RulePort × RulePort)). Wired ws v t.0) e (tied_wired ws n v t.0 t.1)) (subst (λ (ws : List (RulePort × RulePort)). Wired ws v u) e (tied_wired ws (n + 1) v u tied_now))))
     ]
 
     pub other_note : Fitting a b r → ws ≡ wires_of r → note_of u ≢ note_of v
     other_note F e z = F.with_other u v (subst (λ (ws : List (RulePort × RulePort)). Wired ws u v) e (tied_wired ws (n + 1) u v now_tied)) (note_inj u v pu pv z)
 
+  some_same : {x y : ℕ} → Some x ≡ Some y → x ≡ y
+  some_same e = cc
+
   -- all noted and none left
-  module _ (mates : List ℕ) (n : ℕ) (h : length (wires_of r) ≤ n) (M : Marked a b r (wires_of r) n mates) where
+  module _ (mates : List (Option ℕ)) (n : ℕ) (h : length (wires_of r) ≤ n) (M : Marked a b r (wires_of r) n mates) where
     pub noted_fits : Full a b r mates → Fitting a b r
     noted_fits f = record {
       few = few;
@@ -213,7 +190,7 @@ module _ (a b : ℕ) (r : RuleTable) (few : r.cells ≤ 4) (small : Small r) (ha
       with_one = λ x y z w v.
           let s = wired_tied (wires_of r) n x y h w in
           let t = wired_tied (wires_of r) n x z h v in
-          note_inj y z (M.tied y x (turned x y s)).0 (M.tied z x (turned x z t)).0 (sym (M.tied x y s).2 ∙ (M.tied x z t).2);
+          note_inj y z (M.tied y x (turned x y s)).0 (M.tied z x (turned x z t)).0 (some_same (sym (M.tied x y s).2 ∙ (M.tied x z t).2));
       with_other = λ x y w. (M.tied x y (wired_tied (wires_of r) n x y h w)).1;
     }
       where
@@ -224,14 +201,68 @@ module _ (a b : ℕ) (r : RuleTable) (few : r.cells ≤ 4) (small : Small r) (ha
     noted_full F x p e =
         let t = F.pairs_all x p in
         let s = wired_tied (wires_of r) n x t.0 h t.1 in
-        let l = note_small t.0 (F.pairs_only t.0 x (wired_back (wires_of r) x t.0 t.1)) in
         let m = (M.tied x t.0 s).2 in
+        let z : ◌≡◌ {A = ℕ} 0 1 = cc in
         omega arith
 
-  pub full_rows : (mates : List ℕ) → ((k : ℕ) → k < r.cells → FullRow k 0 (get_or r.arities k 0) mates) → FullRow 4 1 a mates → FullRow 5 1 b mates → Full a b r mates
+  pub full_rows : (mates : List (Option ℕ)) → ((k : ℕ) → k < length r.cells.now → FullRow k 0 (get_or (arities_of r) k 0) mates) → FullRow 4 1 a mates → FullRow 5 1 b mates → Full a b r mates
   full_rows mates f g h (L j) p = g j p.0 p.1
   full_rows mates f g h (R j) p = h j p.0 p.1
   full_rows mates f g h (N i j) p = f i p.0 j (omega arith) p.1
 
-  pub full_row : (mates : List ℕ) → Full a b r mates → (k : ℕ) → k < r.cells → FullRow k 0 (get_or r.arities k 0) mates
+  pub full_row : (mates : List (Option ℕ)) → Full a b r mates → (k : ℕ) → k < length r.cells.now → FullRow k 0 (get_or (arities_of r) k 0) mates
   full_row mates f k h j i l = f (N k j) (h, l)
+
+-- one row, searched for a port that is not noted
+not_none : (o : Option ℕ) → option_eq eqb o None ≡ false → o ≢ None
+not_none None e f = let z : ◌≡◌ {A = ℕ} 0 1 = cc in omega arith
+not_none (Some x) e f = let z : ◌≡◌ {A = ℕ} 0 1 = cc in omega arith
+
+is_none : (o : Option ℕ) → option_eq eqb o None ≡ true → o ≡ None
+is_none None e = refl
+is_none (Some x) e = let z : ◌≡◌ {A = ℕ} 0 1 = cc in absurd (omega arith)
+
+pub row_told : (mates : List (Option ℕ)) (row from to : ℕ) (b : Bool) → length mates ≡ 24 → row < 6 → from ≤ 1 → to ≤ 2 →
+    IsAnyAnswer (λ o t. option_eq eqb o None ≡ t) (take (row * 4 + to + 1 - (row * 4 + from)) (drop (row * 4 + from) mates)) b → Told (FullRow row from to mates) (not b)
+row_told mates row from to b l h i m a = go b a
+  where
+    n : ℕ
+    n = row * 4 + to + 1 - (row * 4 + from)
+
+    part : List (Option ℕ)
+    part = take n (drop (row * 4 + from) mates)
+
+    read : (k : ℕ) → k < n → get_or part k None ≡ get_or mates (row * 4 + from + k) None
+    read k h = get_or-take n (drop (row * 4 + from) mates) k None h ∙ get_or-drop (row * 4 + from) mates k None
+
+    long : length part ≡ n
+    long =
+        let t = length-take n (drop (row * 4 + from) mates) in
+        let d = length-drop (row * 4 + from) mates in
+        omega arith
+
+    go : (b : Bool) → IsAnyAnswer (λ o t. option_eq eqb o None ≡ t) part b → Told (FullRow row from to mates) (not b)
+    go true (k, h, g) = λ f.
+        let e : row * 4 + from + k ≡ row * 4 + (from + k) = omega arith in
+        f (from + k) (omega arith) (omega (arith, long)) (ap (λ (s : ℕ). get_or mates s None) (sym e) ∙ sym (read k (omega (arith, long))) ∙ is_none (get_or part k None) (g None))
+    go false g = λ j low high z.
+        let e : row * 4 + from + (j - from) ≡ row * 4 + j = omega arith in
+        let h : j - from < n = omega arith in
+        not_none (get_or part (j - from) None) (g (j - from) None (omega arith) (omega (arith, long))) (read (j - from) h ∙ ap (λ (s : ℕ). get_or mates s None) e ∙ z)
+
+-- cells of arity at most 2
+all_small : (cs : List NewCell) → list_all (λ c. leb c.arity 2) cs ≡ true → (i : ℕ) → i < length cs → get_or (map (λ c. c.arity) cs) i 0 ≤ 2
+all_small [] t i h = absurd (omega arith)
+all_small (c ∷ cs) t zero h = leb-true c.arity 2 (and_parts (leb c.arity 2) (list_all (λ c. leb c.arity 2) cs) t).0
+all_small (c ∷ cs) t (suc i) h = all_small cs (and_parts (leb c.arity 2) (list_all (λ c. leb c.arity 2) cs) t).1 i (omega arith)
+
+small_all : (cs : List NewCell) → ((i : ℕ) → i < length cs → get_or (map (λ c. c.arity) cs) i 0 ≤ 2) → list_all (λ c. leb c.arity 2) cs ≡ true
+small_all [] f = refl
+small_all (c ∷ cs) f =
+    and_from (leb c.arity 2) (list_all (λ c. leb c.arity 2) cs) (le-leb c.arity 2 (f 0 (omega arith))) (small_all cs (λ i h. f (suc i) (omega arith)))
+
+pub small_cells : (r : RuleTable) → true ≡ list_all (λ c. leb c.arity 2) r.cells.now → Small r
+small_cells r t = all_small r.cells.now (sym t)
+
+pub large_cell : (r : RuleTable) → false ≡ list_all (λ c. leb c.arity 2) r.cells.now → Small r → ⊥
+large_cell r t s = let z = t ∙ small_all r.cells.now s in both_ways false refl z

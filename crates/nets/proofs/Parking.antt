@@ -4,8 +4,8 @@ use mathlib.Core.Path.{fun_ext}
 use Rattle.std.proofs.lemmas.Bool.{cases_eq, cases_lt}
 use Rattle.nets.specs.declared.link.Link.{Link}
 use Rattle.nets.specs.Layout.{code, slot_of, goal, nil}
-use Rattle.nets.specs.Rewiring.{Whole, HasSlot, Shows, trade, part, under, Parked}
-use Rattle.nets.proofs.Slots.{code_inj, port_slot, goal_same, goal_other}
+use Rattle.nets.specs.Rewiring.{HasSlot, Shows, trade, part, under, Parked}
+use Rattle.nets.proofs.Slots.{Whole, code_inj, port_slot, goal_same, goal_other}
 use Rattle.calculus.specs.Spots.{Spot, end, port}
 use Rattle.calculus.proofs.Wires.{same}
 use Rattle.calculus.proofs.Splice.{spot, same_yes, same_no, Mutual}
@@ -163,13 +163,12 @@ module _ (n p t : ℕ) (pt : p ≢ t) where
 pub under_mutual : (f m : Spot → Spot) → ((y : Spot) → f (f y) ≡ y) → Mutual m → Mutual (under f m)
 under_mutual f m ff inv y = ap (λ (z : Spot). f (m z)) (ff (m (f y))) ∙ ap f (inv (f y)) ∙ ff y
 
-pub parked_none : (xs : List Link) (p t : ℕ) → Whole xs → Parked xs p t 0 xs
-parked_none xs p t W = record { whole = W; shows = λ m inv d l S. S }
+pub parked_none : (xs : List Link) (p t : ℕ) → Parked xs p t 0 xs
+parked_none xs p t = record { shows = λ m inv d l S. S }
 
 more : (xs zs : List Link) (p t n : ℕ) (X L : Link) → Whole xs → p < 1030 → t < 1030 → p ≢ t → suc n < 3 → X ≡ get_or xs (p * 4 + suc n) nil → slot_of L ≡ t * 4 + suc n →
     Parked (set (set xs (t * 4 + suc n) X) (slot_of X) L) p t n zs → Parked xs p t (suc n) zs
 more xs zs p t n X L W hp ht pt hn eX eL P = record {
-  whole = P.whole;
   shows = λ m inv dt lp S.
       let M = under (part (suc n) p t) m in
       let M2 = under_mutual (part (suc n) p t) m (part_twice (suc n) p t) inv in
@@ -186,10 +185,13 @@ more xs zs p t n X L W hp ht pt hn eX eL P = record {
       (subst (Shows (set (set xs (t * 4 + suc n) X) (slot_of X) L)) (fun_ext (steps n p t pt m)) q);
 }
 
-pub parked_more : (xs zs : List Link) (p t n : ℕ) (X L : Link) → n ≢ 0 → Whole xs → p < 1030 → t < 1030 → p ≢ t → n < 3 → X ≡ get_or xs (p * 4 + n) nil → slot_of L ≡ t * 4 + n →
-    Parked (set (set xs (t * 4 + n) X) (slot_of X) L) p t (n - 1) zs → Parked xs p t n zs
-parked_more xs zs p t n X L o W hp ht pt hn eX eL P =
+-- one port less to move: what moves the ports below n moves all of them
+pub parked_down : (xs ys : List Link) (p t n N : ℕ) (X L : Link) → 1 ≤ n → Whole ys → p < 1030 → t < 1030 → p ≢ t → n < 3 → X ≡ get_or ys (p * 4 + n) nil → slot_of L ≡ t * 4 + n →
+    ((us : List Link) → Parked ys p t n us → Parked xs p t N us) →
+    (us : List Link) → Parked (set (set ys (t * 4 + n) X) (slot_of X) L) p t (n - 1) us → Parked xs p t N us
+parked_down xs ys p t n N X L l W hp ht pt hn eX eL f us P =
     let e : n ≡ suc (n - 1) = omega arith in
-    subst (λ (n : ℕ). Parked xs p t n zs) (sym e)
-    (more xs zs p t (n - 1) X L W hp ht pt (omega arith) (eX ∙ ap (λ (n : ℕ). get_or xs (p * 4 + n) nil) e) (eL ∙ ap (λ (n : ℕ). t * 4 + n) e)
-    (subst (λ (v : ℕ). Parked (set (set xs (t * 4 + v) X) (slot_of X) L) p t (n - 1) zs) e P))
+    f us
+    (subst (λ (i : ℕ). Parked ys p t i us) (sym e)
+    (more ys us p t (n - 1) X L W hp ht pt (omega arith) (eX ∙ ap (λ (i : ℕ). get_or ys (p * 4 + i) nil) e) (eL ∙ ap (λ (i : ℕ). t * 4 + i) e)
+    (subst (λ (i : ℕ). Parked (set (set ys (t * 4 + i) X) (slot_of X) L) p t (n - 1) us) e P)))

@@ -1,18 +1,19 @@
 -- Which pair of places is ready to be rewritten, and that its rule fits. Assumes nothing.
-use Rattle.std.proofs.Common.{◌≡◌, ℕ, ◌+◌, ◌<◌, ◌≤◌, ◌≢◌, get_or, Some, None, vec_items, Option, sym, refl, ap, ◌∙◌, subst, inl, inr, arith}
+use Rattle.std.proofs.Common.{◌≡◌, ℕ, ◌+◌, ◌<◌, ◌≤◌, ◌≢◌, length, get_or, Some, None, Ok, Err, vec_items, Result, Bor, sym, refl, ap, ◌∙◌, subst, inl, inr, arith}
 use Rattle.std.specs.List.{slice_get}
+use Rattle.std.specs.Result.{result_err}
 use Rattle.calculus.specs.Spots.{port}
 use Rattle.calculus.specs.Books.{Rule, RuleBook, Laws}
 use Rattle.calculus.specs.Nets.{Pair, Active}
 use Rattle.books.specs.declared.table.RuleTable.{RuleTable}
+use Rattle.books.proofs.Depicted.{cells_same}
 use Rattle.books.specs.Answers.{Meant, Found, Answers}
 use Rattle.nets.specs.declared.fault.PairFault.{PairFault}
-use Rattle.nets.specs.declared.fault.PairFault.TheVariants.{NotReady, LoopsFull, NoPlace}
 use Rattle.nets.specs.declared.table.Table.{Table}
 use Rattle.nets.specs.Meaning.{content, arity_at, net}
-use Rattle.nets.specs.Rewrites.{Face, ports_at, pair}
-use Rattle.nets.specs.ByBook.{At, Ready, Against}
-use Rattle.nets.specs.Seating.{RuleReady, Limiting, Replaceable}
+use Rattle.nets.specs.Rewrites.{Face, ports_at, pair, LoopsFree}
+use Rattle.nets.specs.ByBook.{At, Ready, PairAllowed, Against}
+use Rattle.nets.specs.Seating.{RuleReady, RuleChecked, RoomFor, Replaceable}
 use Rattle.nets.proofs.Standing.{kind_some, some_kind, some_arity, there_port}
 use Rattle.nets.proofs.Standing as standing
 use Rattle.nets.proofs.Finishing.{p_on, q_on, depicted_fits}
@@ -114,13 +115,10 @@ module _ (K : RuleBook) (laws : Laws K) (t : Table) (p q : ℕ) (r : RuleTable) 
   abbrev P : Pair
   P = pair p q C.position C.rule
 
-  pub against : (o : Option PairFault) → Limiting t r.cells o → Against K t p q o
-  against (Some NotReady) l = absurd l
-  against (Some LoopsFull) l = (P, (refl, refl), C.ready, l)
-  against (Some NoPlace) l = (P, (refl, refl), C.ready, l.0, λ h. l.1 (let e = C.depicts.cells in omega arith))
-  against None l = (P, (refl, refl), record { ready = C.ready; loops = l.0; places = let e = C.depicts.cells in let h = l.1 in omega arith })
+  pub allowed : LoopsFree t × RoomFor t (length r.cells.now) → PairAllowed K t P
+  allowed l = record { ready = C.ready; loops = l.0; places = let e = cells_same K r C.rule C.depicts in let h = l.1 in omega arith }
 
-  pub replaceable : Limiting t r.cells None → Replaceable t p q r
+  pub replaceable : LoopsFree t × RoomFor t (length r.cells.now) → Replaceable t p q r
   replaceable l =
       let act = C.ready.active in
       let F = active_faces K t P act in
@@ -139,3 +137,8 @@ module _ (K : RuleBook) (laws : Laws K) (t : Table) (p q : ℕ) (r : RuleTable) 
       let y : Some Q.rule.right ≡ Some C.rule.right = sym act.right ∙ ap (net t).kind at.1 ∙ C.ready.active.right in
       let o = one_rule K laws C.position Q.position C.rule Q.rule C.ready.active.listed act.listed C.rule.left C.rule.right (inl (refl, refl)) (inl (cc, cc)) in
       λ i. record { left = sym at.0 i; right = sym at.1 i; position = o.1 i; rule = o.0 i }
+
+-- what is against the pair, if anything is
+pub against : (K : RuleBook) → Laws K → (t : Table) (p q : ℕ) (x : Result (Bor RuleTable) PairFault) → RuleChecked K t p q x → Against K t p q (result_err x)
+against K laws t p q (Ok r) h = (P K laws t p q r.now h.0, (refl, refl), allowed K laws t p q r.now h.0 (h.1, h.2))
+against K laws t p q (Err e) h = h

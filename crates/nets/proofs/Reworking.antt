@@ -27,7 +27,8 @@ use Rattle.nets.specs.Layout.{decode, bit}
 use Rattle.nets.specs.Meaning.{Content, mate_of}
 use Rattle.nets.specs.ByBook.{seat}
 use Rattle.nets.specs.Rewiring.{Shows, renamed, Places, Room, Laid, Strung, Cleared}
-use Rattle.nets.proofs.Standing.{either, there, mate_there, mate_absent, is_there, port_there, there_port, end_there, there_end}
+use Rattle.nets.specs.Inner.{there}
+use Rattle.nets.proofs.Standing.{either, mate_there, mate_absent, is_there, port_there, there_port, end_there, there_end}
 use Rattle.nets.proofs.Slots.{same_live}
 use Rattle.nets.proofs.Splicing.{closed}
 use Rattle.nets.proofs.Renaming.{swaps, swaps_else, swaps_new, swaps_twice, move_twice, renamed_mutual, renamed_same}

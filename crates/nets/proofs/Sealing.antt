@@ -7,15 +7,15 @@ use Rattle.nets.specs.declared.link.Link.{Link}
 use Rattle.nets.specs.Layout.{code, decode, goal, bit, is_used, NamesStanding, NamesBack, NamesOther}
 use Rattle.nets.specs.Meaning.{Content, kind_at, arity_at, mate_of}
 use Rattle.nets.specs.Drafts.{plan, planned, Faulty}
-use Rattle.nets.specs.Inner.{Front}
-use Rattle.nets.proofs.Standing.{either, code_decode, there, at_slot}
+use Rattle.nets.specs.Inner.{Front, there}
+use Rattle.nets.proofs.Standing.{either, code_decode, at_slot}
 use Rattle.nets.proofs.Plans.{names_self, names_absent, not_back}
 
 module _ (d : Draft) (map : List ℕ) (F : Front d.cells map) where
   -- what the table will hold
   abbrev pub held : Content
   held = record {
-    links = vec_items d.links;
+    links = vec_items d.links.targets;
     kinds = vec_items d.kinds;
     arities = vec_items d.arities;
     occupied = map;
@@ -48,23 +48,23 @@ module _ (d : Draft) (map : List ℕ) (F : Front d.cells map) where
 
   module _ (sound : (x : Spot) → Faulty (plan d) x → ⊥) where
     abbrev links : List Link
-    links = vec_items d.links
+    links = vec_items d.links.targets
 
-    goal_of : (k : ℕ) → goal (vec_items d.links) (code (decode k)) ≡ goal (vec_items d.links) k
-    goal_of k = ap (goal (vec_items d.links)) (code_decode k)
+    goal_of : (k : ℕ) → goal (vec_items d.links.targets) (code (decode k)) ≡ goal (vec_items d.links.targets) k
+    goal_of k = ap (goal (vec_items d.links.targets)) (code_decode k)
 
-    pub names_standing : NamesStanding (vec_items d.links) (vec_items d.arities) map d.ends
-    names_standing k h = slot_is (goal (vec_items d.links) k) ∙ go (either (planned (plan d) (decode (goal (vec_items d.links) k))))
+    pub names_standing : NamesStanding (vec_items d.links.targets) (vec_items d.arities) map d.ends
+    names_standing k h = slot_is (goal (vec_items d.links.targets) k) ∙ go (either (planned (plan d) (decode (goal (vec_items d.links.targets) k))))
       where
         p : planned (plan d) (decode k) ≡ true
         p = sym (slot_is k) ∙ h
 
-        go : (planned (plan d) (decode (goal (vec_items d.links) k)) ≡ true) ⊎ (planned (plan d) (decode (goal (vec_items d.links) k)) ≡ false) →
-            planned (plan d) (decode (goal (vec_items d.links) k)) ≡ true
+        go : (planned (plan d) (decode (goal (vec_items d.links.targets) k)) ≡ true) ⊎ (planned (plan d) (decode (goal (vec_items d.links.targets) k)) ≡ false) →
+            planned (plan d) (decode (goal (vec_items d.links.targets) k)) ≡ true
         go (inl e) = e
         go (inr e) = absurd (sound (decode k) (names_absent d (decode k) p (ap (λ (g : ℕ). planned (plan d) (decode g)) (goal_of k) ∙ e)))
 
-    pub names_back : NamesBack (vec_items d.links) (vec_items d.arities) map d.ends
+    pub names_back : NamesBack (vec_items d.links.targets) (vec_items d.arities) map d.ends
     names_back k h = go (cases_eq (goal links (goal links k)) k)
       where
         go : (goal links (goal links k) ≡ k) ⊎ (goal links (goal links k) ≢ k) → goal links (goal links k) ≡ k
@@ -72,5 +72,5 @@ module _ (d : Draft) (map : List ℕ) (F : Front d.cells map) where
         go (inr n) =
             absurd (sound (decode k) (not_back d (decode k) (sym (slot_is k) ∙ h) (λ e. n (ap (goal links) (sym (goal_of k)) ∙ e ∙ code_decode k))))
 
-    pub names_other : NamesOther (vec_items d.links) (vec_items d.arities) map d.ends
+    pub names_other : NamesOther (vec_items d.links.targets) (vec_items d.arities) map d.ends
     names_other k h e = sound (decode k) (names_self d (decode k) (sym (slot_is k) ∙ h) (goal_of k ∙ e ∙ sym (code_decode k)))

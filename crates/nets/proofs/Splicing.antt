@@ -1,9 +1,9 @@
 -- The splice of two spots, in the list of links. Assumes nothing.
-use Rattle.std.proofs.Common.{◌≡◌, ℕ, ◌<◌, ◌≢◌, ◌⊎◌, List, length, get_or, set, sym, ap, ◌∙◌, subst, inl, inr, arith, length-set}
+use Rattle.std.proofs.Common.{◌≡◌, ℕ, ◌<◌, ◌≢◌, ◌⊎◌, List, length, get_or, set, sym, ap, ◌∙◌, inl, inr, arith, length-set}
 use Rattle.nets.specs.declared.link.Link.{Link}
-use Rattle.nets.specs.Layout.{code, slots, slot_of, goal, nil}
-use Rattle.nets.specs.Rewiring.{Whole, HasSlot, Shows, Spliced}
-use Rattle.nets.proofs.Slots.{code_inj, goal_same, goal_other, whole_set}
+use Rattle.nets.specs.Layout.{code, slot_of, goal, nil}
+use Rattle.nets.specs.Rewiring.{HasSlot, Shows, Spliced}
+use Rattle.nets.proofs.Slots.{Whole, code_inj, goal_same, goal_other}
 use Rattle.calculus.specs.Spots.{Spot}
 use Rattle.calculus.proofs.Wires.{through, closes}
 use Rattle.calculus.proofs.Splice.{spot, to_a, to_b, past, one_mate, Mutual, was_live, closes_yes, closes_no, closed_past}
@@ -71,19 +71,17 @@ module _ (xs : List Link) (m : Spot → Spot) (inv : Mutual m) (S : Shows xs m) 
                 let ny : code z ≢ slot_of Y = λ e. h (ap m (code_inj z (m y) s.0 (mate_drawn y ly) (e ∙ eY)) ∙ inv y) in
                 (s.0, goal_other ys (slot_of Y) X (code z) ny ∙ goal_other xs (slot_of X) Y (code z) nx ∙ s.1 ∙ ap code (sym (past x y m z w.0 w.1 k h)))
 
-pub splice_closed : (xs : List Link) (a b : ℕ) → Whole xs → goal xs a ≡ b → Spliced xs a b xs 1
-splice_closed xs a b W e = record {
-  whole = W;
+pub splice_closed : (xs : List Link) (a b : ℕ) → goal xs a ≡ b → Spliced xs a b xs 1
+splice_closed xs a b e = record {
   few = omega arith;
   shows = λ m x y inv cx cy xy lx ly S.
       closed xs m inv S x y xy lx ly
       (code_inj (m x) y (mate_drawn xs m inv S x lx) (S y ly).0 (sym (S x lx).1 ∙ ap (goal xs) cx ∙ e ∙ sym cy));
 }
 
-pub splice_open : (xs : List Link) (a b : ℕ) (X Y : Link) → Whole xs → a < slots → b < slots → X ≡ get_or xs a nil → Y ≡ get_or xs b nil → slot_of X ≢ b →
+pub splice_open : (xs : List Link) (a b : ℕ) (X Y : Link) → Whole xs → X ≡ get_or xs a nil → Y ≡ get_or xs b nil → slot_of X ≢ b →
     Spliced xs a b (set (set xs (slot_of X) Y) (slot_of Y) X) 0
-splice_open xs a b X Y W ha hb eX eY n = record {
-  whole = whole_set (set xs (slot_of X) Y) (slot_of Y) X (whole_set xs (slot_of X) Y W (subst (λ l. slot_of l < slots) (sym eY) (W.inside b hb))) (subst (λ l. slot_of l < slots) (sym eX) (W.inside a ha));
+splice_open xs a b X Y W eX eY n = record {
   few = omega arith;
   shows = λ m x y inv cx cy xy lx ly S.
       let sX : slot_of X ≡ code (m x) = ap slot_of eX ∙ ap (goal xs) (sym cx) ∙ (S x lx).1 in

@@ -1,13 +1,14 @@
 -- Slots and spots, and what a table's links are by spots. Assumes nothing.
-use Rattle.std.proofs.Common.{◌≡◌, ℕ, ◌+◌, ◌-◌, ◌*◌, ◌/◌, ◌%◌, ◌<◌, ◌≤◌, Bool, true, false, cond, ◌&&◌, eqb, ltb, leb, ◌≢◌, ◌⊎◌, length, get_or, Some, None, vec_items, sym, refl, ap, ◌∙◌, ap₂, inl, inr, arith}
-use Rattle.std.proofs.lemmas.List.{get_or_read}
+use Rattle.std.proofs.Common.{◌≡◌, ℕ, ◌+◌, ◌-◌, ◌*◌, ◌/◌, ◌%◌, ◌<◌, ◌≤◌, Bool, true, false, cond, ◌&&◌, eqb, ltb, leb, ◌≢◌, ◌⊎◌, get_or, Some, None, Option, is_some, IfSome, vec_items, sym, refl, ap, ◌∙◌, ap₂, inl, inr, arith}
 use Rattle.calculus.specs.Spots.{Spot, end, port}
 use Rattle.calculus.specs.Books.{RuleBook}
 use Rattle.calculus.specs.Nets.{Stands, Good}
-use Rattle.nets.specs.declared.link.Link.{Link}
+use Rattle.nets.specs.declared.spot.Spot.{Spot as Seen}
 use Rattle.nets.specs.declared.table.Table.{Table}
-use Rattle.nets.specs.Layout.{slots, code, decode, is_of_end, goal, slot_of, nil, bit, stands, is_used}
+use Rattle.nets.specs.Layout.{slots, code, decode, is_of_end, goal, bit, is_used}
 use Rattle.nets.specs.Meaning.{Content, content, kind_at, arity_at, mate_of, net, OfBook}
+use Rattle.nets.specs.Views.{at, Mated}
+use Rattle.nets.specs.Inner.{there}
 use Rattle.nets.proofs.Places.{bit_low}
 
 pub either : (b : Bool) → (b ≡ true) ⊎ (b ≡ false)
@@ -47,10 +48,6 @@ code_decode k = go (either (is_of_end k))
 pub code_small : (x : Spot) → Drawn x → code x < slots
 code_small (end e) d = omega arith
 code_small (port p i) d = omega arith
-
--- whether a spot of a table stands
-abbrev pub there : Content → Spot → Bool
-there c x = stands c.arities c.occupied c.ends x
 
 module _ (c : Content) where
   pub at_slot : (k : ℕ) → there c (decode k) ≡ is_used c.arities c.occupied c.ends k
@@ -122,15 +119,15 @@ module _ (t : Table) where
 
   pub mate_stands : (x : Spot) → there (content t) x ≡ true → there (content t) (mate_of (content t) x) ≡ true
   mate_stands x h =
-      ap (there C) (mate_there C x h) ∙ at_slot C (goal (vec_items t.links) (code x)) ∙ t.standing (code x) (slot_in_use x h)
+      ap (there C) (mate_there C x h) ∙ at_slot C (goal (vec_items t.links.targets) (code x)) ∙ t.standing (code x) (slot_in_use x h)
 
   -- links are mutual
   pub twice : (x : Spot) → (net t).mate ((net t).mate x) ≡ x
   twice x = elim (either (there C x)) as (λ _. mate_of C (mate_of C x) ≡ x) [
     | inl h ↦
-        (let g = goal (vec_items t.links) (code x) in
+        (let g = goal (vec_items t.links.targets) (code x) in
         let al : there C (decode g) ≡ true = at_slot C g ∙ t.standing (code x) (slot_in_use x h) in
-        ap (mate_of C) (mate_there C x h) ∙ mate_there C (decode g) al ∙ ap (λ (k : ℕ). decode (goal (vec_items t.links) k)) (code_decode g)
+        ap (mate_of C) (mate_there C x h) ∙ mate_there C (decode g) al ∙ ap (λ (k : ℕ). decode (goal (vec_items t.links.targets) k)) (code_decode g)
         ∙ ap decode (t.back (code x) (slot_in_use x h)) ∙ decode_code x (drawn x h))
     | inr h ↦ ap (mate_of C) (mate_absent C x h) ∙ mate_absent C x h
   ]
@@ -138,7 +135,7 @@ module _ (t : Table) where
   -- no spot that stands is linked with itself
   pub apart : (x : Spot) → there (content t) x ≡ true → (net t).mate x ≢ x
   apart x h e =
-      t.other (code x) (slot_in_use x h) (sym (code_decode (goal (vec_items t.links) (code x))) ∙ ap code (sym (mate_there C x h) ∙ e))
+      t.other (code x) (slot_in_use x h) (sym (code_decode (goal (vec_items t.links.targets) (code x))) ∙ ap code (sym (mate_there C x h) ∙ e))
 
   module _ (K : RuleBook) (B : OfBook K t) where
     arity_is : (r k : ℕ) → (net t).kind r ≡ Some k → K.arity k ≡ Some (get_or (vec_items t.arities) r 0)
@@ -168,19 +165,13 @@ module _ (t : Table) where
       there = λ x h. there_stands x (is_there C x h);
     }
 
--- the link read at a spot's slot names its mate
-module _ (t : Table) (x : Spot) (h : there (content t) x ≡ true) (k : ℕ) (s : k ≡ code x) where
-  pub slot_small : k < length (vec_items t.links)
-  slot_small = let z = code_small x (drawn t x h) in omega (arith, t.long)
+-- what a spot's slot names is its mate
+module _ (t : Table) (x : Spot) where
+  read_mate : (y : Spot) → there (content t) x ≡ true → y ≡ decode (goal (vec_items t.links.targets) (code x)) → ((net t).mate x ≡ y) × (y ≢ x) × ((net t).mate y ≡ x)
+  read_mate y h d =
+      let m : (net t).mate x ≡ y = mate_there (content t) x h ∙ sym d in
+      (m, λ z. apart t x h (m ∙ z), ap (net t).mate (sym m) ∙ twice t x)
 
-  module _ (l : Link) (e : l ≡ get_or (vec_items t.links) k l) where
-    read_goal : slot_of l ≡ goal (vec_items t.links) (code x)
-    read_goal = ap slot_of (get_or_read (vec_items t.links) k l slot_small e nil) ∙ ap (goal (vec_items t.links)) s
-
-    pub goal_small : slot_of l < slots
-    goal_small = let z = t.inside (code x) (code_small x (drawn t x h)) in let y = read_goal in omega arith
-
-    pub read_mate : (y : Spot) → y ≡ decode (slot_of l) → ((net t).mate x ≡ y) × (y ≢ x) × ((net t).mate y ≡ x)
-    read_mate y d =
-        let m : (net t).mate x ≡ y = mate_there (content t) x h ∙ ap decode (sym read_goal) ∙ sym d in
-        (m, λ z. apart t x h (m ∙ z), ap (net t).mate (sym m) ∙ twice t x)
+  pub mated : (r : Option Seen) (b : Bool) → b ≡ there (content t) x → is_some r ≡ b → IfSome r (λ y. at y ≡ decode (goal (vec_items t.links.targets) (code x))) → Mated (net t) x r
+  mated None b e f g = mate_absent (content t) x (sym e ∙ sym f)
+  mated (Some y) b e f g = read_mate (at y) (sym e ∙ sym f) g

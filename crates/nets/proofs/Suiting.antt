@@ -8,9 +8,8 @@ use Rattle.nets.specs.declared.fault.RewriteFault.{RewriteFault}
 use Rattle.nets.specs.declared.fault.RewriteFault.TheVariants.{NotFacing, Unfit, LoopsFull, NoPlace}
 use Rattle.nets.specs.declared.table.Table.{Table}
 use Rattle.nets.specs.Meaning.{content, net, OfBook}
-use Rattle.nets.specs.Rewrites.{Face, ports_at, Suits, Cause, Allowed, Limit, Rewrote, pair}
+use Rattle.nets.specs.Rewrites.{Face, ports_at, Suits, Cause, Limit, Rewrote, pair}
 use Rattle.nets.specs.ByBook.{seat, RewroteAt}
-use Rattle.nets.specs.Seating.{Replaceable}
 use Rattle.nets.proofs.Standing.{kind_some, some_arity}
 use Rattle.nets.proofs.Finishing.{depicted_fits}
 use Rattle.nets.proofs.Readiness.{active_faces}
@@ -36,10 +35,6 @@ active_suits K r w D laws t p q i B act =
         fitting = depicted_fits K r w D (laws.rules i w act.listed) (ports_at t p) (ports_at t q) ea eb (λ k x e. (laws.kinds k x e).1);
       },
     )
-
--- a pair that may be rewritten by the rule can be replaced by its table
-pub allowed_replaceable : (t : Table) (p q : ℕ) (r : RuleTable) → Allowed t p q r → Replaceable t p q r
-allowed_replaceable t p q r A = record { facing = A.facing; fitting = A.suits.fitting; loops = A.loops; places = A.places }
 
 -- what is rewritten with its new cells in known places is rewritten
 pub rewrote_somewhere : (K : RuleBook) (s t : Table) (p q i : ℕ) (w : Rule) (places : List ℕ) → RewroteAt K s (pair p q i w) places t → Rewrote K s (pair p q i w) t

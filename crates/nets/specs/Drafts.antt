@@ -24,7 +24,7 @@ plan d = record {
   cells = d.cells;
   kind = λ r. slice_index (vec_items d.kinds) r;
   arity = λ r. slice_index (vec_items d.arities) r;
-  link = λ x. decode (goal (vec_items d.links) (code x));
+  link = λ x. decode (goal (vec_items d.links.targets) (code x));
 }
 
 -- the spot is there

@@ -2,15 +2,14 @@
 use Rattle.std.specs.Prelude.{◌≡◌, ℕ, ◌<◌, Bool, true, false, cond, List, length, Some, None, Option, nat_lt}
 use Rattle.calculus.specs.Spots.{Spot, port}
 use Rattle.nets.specs.declared.spot.Spot.{Spot as Seen}
-use Rattle.nets.specs.Layout.{code, stands, bit}
+use Rattle.nets.specs.Layout.{stands, bit}
 use Rattle.nets.specs.Meaning.{Content}
 use Rattle.nets.specs.Views.{at}
 use Rattle.nets.specs.Drafts.{Plan, Faulty, Before}
 
--- the slot of x, if x is there
-abbrev pub Slotted : Content → Spot → Option ℕ → Type 0
-Slotted c x None = stands c.arities c.occupied c.ends x ≡ false
-Slotted c x (Some k) = (stands c.arities c.occupied c.ends x ≡ true) × (k ≡ code x)
+-- whether x is there
+abbrev pub there : Content → Spot → Bool
+there c x = stands c.arities c.occupied c.ends x
 
 -- the first fault of all
 abbrev pub Searched : Plan → Option Seen → Type 0

@@ -23,6 +23,11 @@ decode k = cond (is_of_end k) (end (k / 4 - 1030)) (port (k / 4) (k % 4))
 abbrev pub slot_of : Link → ℕ
 slot_of l = l.row * 4 + l.port
 
+-- the row and port of a spot
+abbrev pub link_of : Spot → Link
+link_of (end e) = record { row = 1030 + e; port = 0 }
+link_of (port r j) = record { row = r; port = j }
+
 abbrev pub nil : Link
 nil = record { row = 0; port = 0 }
 

@@ -18,7 +18,7 @@ pub record Content : Type 0 where
 
 abbrev pub content : Table → Content
 content t = record {
-  links = vec_items t.links;
+  links = vec_items t.links.targets;
   kinds = vec_items t.kinds;
   arities = vec_items t.arities;
   occupied = t.occupied;

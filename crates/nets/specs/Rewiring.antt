@@ -10,11 +10,6 @@ use Rattle.nets.specs.Layout.{code, decode, slots, goal}
 use Rattle.nets.specs.Noting.{Tied}
 use Rattle.nets.specs.ByBook.{seat}
 
--- every slot names a slot
-pub record Whole (xs : List Link) : Type 0 where
-  pub long : length xs ≡ slots
-  pub inside : (k : ℕ) → k < slots → goal xs k < slots
-
 -- the spot has a slot of its own
 abbrev pub HasSlot : Spot → Type 0
 HasSlot x = (decode (code x) ≡ x) × (code x < slots)
@@ -25,14 +20,12 @@ Shows xs m = (x : Spot) → m x ≢ x → HasSlot x × (goal xs (code x) ≡ cod
 
 -- ys is xs with the spots in slots a and b spliced, n the loops that this closed: whatever wiring xs shows in which both have mates
 pub record Spliced (xs : List Link) (a b : ℕ) (ys : List Link) (n : ℕ) : Type 0 where
-  pub whole : Whole ys
   pub few : n < 2
   pub shows : (m : Spot → Spot) (x y : Spot) → ((z : Spot) → m (m z) ≡ z) → code x ≡ a → code y ≡ b → x ≢ y → m x ≢ x → m y ≢ y → Shows xs m →
       Shows ys (through x y m) × (n ≡ closes x y m)
 
 -- ys is xs with ports 1 to n of the rows p and g spliced, k the loops that this closed
 pub record Strung (xs : List Link) (p g n : ℕ) (ys : List Link) (k : ℕ) : Type 0 where
-  pub whole : Whole ys
   pub few : k ≤ n
   pub shows : (m : Spot → Spot) → ((z : Spot) → m (m z) ≡ z) → Ready (wires p g n) m → Shows xs m →
       Shows ys (run (wires p g n) m) × (k ≡ tally (wires p g n) m)
@@ -56,13 +49,11 @@ renamed f m y = carry f (m (carry f y))
 
 -- ports 1 to n of row p now stand in row t
 pub record Parked (xs : List Link) (p t n : ℕ) (ys : List Link) : Type 0 where
-  pub whole : Whole ys
   pub shows : (m : Spot → Spot) → ((z : Spot) → m (m z) ≡ z) → ((j : ℕ) → m (port t j) ≡ port t j) → ((j : ℕ) → 1 ≤ j → j ≤ n → m (port p j) ≢ port p j) →
       Shows xs (under (part n p t) m) → Shows ys (under (part 0 p t) m)
 
 -- row p made free for a new cell if that is needed: its ports then stand in row t, else where they stood; r is the row where they stand
 pub record Cleared (xs : List Link) (p t n : ℕ) (b : Bool) (ys : List Link) (r : ℕ) : Type 0 where
-  pub whole : Whole ys
   pub small : r < 1030
   pub moved : b ≡ true → (r ≡ t) × Parked xs p t n ys
   pub stayed : b ≡ false → (r ≡ p) × (ys ≡ xs)
@@ -98,13 +89,11 @@ pub record Room (ws : List (RulePort × RulePort)) (ps : List ℕ) : Type 0 wher
 
 -- the first n wires are laid into the links
 pub record Laying (xs : List Link) (ws : List (RulePort × RulePort)) (ps : List ℕ) (n : ℕ) (ys : List Link) : Type 0 where
-  pub whole : Whole ys
   pub here : (x y : RulePort) → Tied ws n x y → goal ys (seat_of ps x) ≡ seat_of ps y
   pub other : (k : ℕ) → ((x y : RulePort) → Tied ws n x y → k ≢ seat_of ps x) → goal ys k ≡ goal xs k
 
 -- all of them are
 pub record Laid (xs : List Link) (ws : List (RulePort × RulePort)) (ps : List ℕ) (ys : List Link) : Type 0 where
-  pub whole : Whole ys
   pub here : (x y : RulePort) → Wired ws x y → goal ys (seat_of ps x) ≡ seat_of ps y
   pub other : (k : ℕ) → ((x y : RulePort) → Wired ws x y → k ≢ seat_of ps x) → goal ys k ≡ goal xs k
 

@@ -1,5 +1,5 @@
 -- Rewriting a table in place: when it is refused, and what it promises. Assumes nothing.
-use Rattle.std.specs.Prelude.{◌≡◌, ℕ, ◌+◌, ◌<◌, ◌≤◌, ◌≢◌, Some, Ok, Err, Result, slice_index}
+use Rattle.std.specs.Prelude.{◌≡◌, ℕ, ◌+◌, ◌<◌, ◌≤◌, ◌≢◌, length, Some, Ok, Err, Result, slice_index}
 use Rattle.std.specs.List.{slice_get}
 use Rattle.calculus.specs.Spots.{port}
 use Rattle.calculus.specs.Books.{Rule, RuleBook, Laws}
@@ -34,7 +34,7 @@ LoopsFree t = (net t).loops ≤ 1073741821
 
 -- the new cells do not outnumber the vacant places plus two
 abbrev pub PlacesFree : Table → RuleTable → Type 0
-PlacesFree t r = cells_below (net t) 1024 + r.cells ≤ 1026
+PlacesFree t r = cells_below (net t) 1024 + length r.cells.now ≤ 1026
 
 -- the first thing that is against it, or that nothing is
 abbrev pub Cause : Table → ℕ → ℕ → RuleTable → RewriteFault → Type 0

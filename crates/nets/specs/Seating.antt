@@ -1,12 +1,15 @@
 -- What the private functions that seat the new cells and replace a pair tell each other; no public contract cites it. Assumes nothing.
-use Rattle.std.specs.Prelude.{◌≡◌, ℕ, zero, suc, ◌+◌, ◌-◌, ◌<◌, ◌≤◌, min, max, Bool, true, false, ◌≢◌, List, length, Some, None, Option, nat_lt}
+use Rattle.std.specs.Prelude.{◌≡◌, ℕ, zero, suc, ◌+◌, ◌-◌, ◌<◌, ◌≤◌, min, max, Bool, true, false, ◌≢◌, List, length, Some, None, Ok, Err, Option, Result, nat_lt}
+use Rattle.std.specs.Borrow.{Bor}
 use Rattle.calculus.specs.Books.{Rule, RuleBook, Laws}
 use Rattle.calculus.specs.Nets.{Net, Active}
 use Rattle.books.specs.declared.table.RuleTable.{RuleTable}
 use Rattle.books.specs.Tables.{Depicts}
 use Rattle.nets.specs.declared.fault.RewriteFault.{RewriteFault}
 use Rattle.nets.specs.declared.fault.PairFault.{PairFault}
-use Rattle.nets.specs.declared.fault.PairFault.TheVariants.{NotReady, LoopsFull, NoPlace}
+use Rattle.nets.specs.declared.fault.PairFault.TheVariants.{NotReady}
+use Rattle.nets.specs.declared.fault.Limit.{Limit}
+use Rattle.nets.specs.declared.fault.Limit.TheVariants.{Loops, Places}
 use Rattle.nets.specs.declared.table.Table.{Table}
 use Rattle.nets.specs.Layout.{bit}
 use Rattle.nets.specs.Meaning.{net, OfBook, cells_below}
@@ -52,10 +55,10 @@ pub record Seated (p q n : ℕ) (ms ps ns : List ℕ) : Type 0 where
   pub third : Taken (nat_lt 2 n) rights (seat ps 2) thirds
   pub fourth : Taken (nat_lt 3 n) thirds (seat ps 3) ns
 
--- what is against the rewrite by a rule, or that nothing is
-abbrev pub Reason : Table → ℕ → ℕ → RuleTable → Option RewriteFault → Type 0
-Reason t p q r (Some e) = Cause t p q r e
-Reason t p q r None = Allowed t p q r
+-- that nothing is against the rewrite by a rule, or what is
+abbrev pub Checked : Table → ℕ → ℕ → RuleTable → Result (Unit {0}) RewriteFault → Type 0
+Checked t p q r (Ok x) = Allowed t p q r
+Checked t p q r (Err e) = Cause t p q r e
 
 -- r is the rule of the pair in these places, which is ready
 pub record RuleReady (K : RuleBook) (t : Table) (p q : ℕ) (r : RuleTable) : Type 0 where
@@ -73,19 +76,32 @@ Chosen K t p q None = PairCause K t p q NotReady
 abbrev pub RoomFor : Table → ℕ → Type 0
 RoomFor t n = cells_below (net t) 1024 + n ≤ 1026
 
--- the limit that is against a rule with n new cells, or that none is
-abbrev pub Limiting : Table → ℕ → Option PairFault → Type 0
-Limiting t n (Some NotReady) = ⊥
-Limiting t n (Some LoopsFull) = LoopsFree t → ⊥
-Limiting t n (Some NoPlace) = LoopsFree t × (RoomFor t n → ⊥)
-Limiting t n None = LoopsFree t × RoomFor t n
+-- that no limit is against n new cells, or which is
+abbrev pub Limiting : Table → ℕ → Result (Unit {0}) Limit → Type 0
+Limiting t n (Ok x) = LoopsFree t × RoomFor t n
+Limiting t n (Err Loops) = LoopsFree t → ⊥
+Limiting t n (Err Places) = LoopsFree t × (RoomFor t n → ⊥)
+
+-- the rule by which the pair in these places can be rewritten, or what is against that
+abbrev pub RuleChecked : RuleBook → Table → ℕ → ℕ → Result (Bor RuleTable) PairFault → Type 0
+RuleChecked K t p q (Ok r) = RuleReady K t p q r.now × LoopsFree t × RoomFor t (length r.now.cells.now)
+RuleChecked K t p q (Err e) = PairCause K t p q e
+
+-- a limit as a fault of the one call and of the other
+abbrev pub to_rewrite_fault : Limit → RewriteFault
+to_rewrite_fault Loops = RewriteFault.LoopsFull
+to_rewrite_fault Places = RewriteFault.NoPlace
+
+abbrev pub to_pair_fault : Limit → PairFault
+to_pair_fault Loops = PairFault.LoopsFull
+to_pair_fault Places = PairFault.NoPlace
 
 -- the table of a rule can replace the pair in these places
 pub record Replaceable (t : Table) (p q : ℕ) (r : RuleTable) : Type 0 where
   pub facing : Face (net t) p q
   pub fitting : Fitting (ports_at t p) (ports_at t q) r
   pub loops : LoopsFree t
-  pub places : RoomFor t r.cells
+  pub places : RoomFor t (length r.cells.now)
 
 -- the new cells stand in the two places given up, lower place first, then in vacant places from the top down, none skipped
 pub record Downwards (A : Net) (p q n : ℕ) (place : ℕ → ℕ) : Type 0 where
@@ -100,4 +116,4 @@ pub record Downwards (A : Net) (p q n : ℕ) (place : ℕ → ℕ) : Type 0 wher
 abbrev pub Replaced : Table → ℕ → ℕ → RuleTable → List ℕ → Table → Type 0
 Replaced s p q r places t =
     (K : RuleBook) (i : ℕ) (w : Rule) → Laws K → OfBook K s → Depicts K r w → Active K (net s) (pair p q i w) →
-    RewroteAt K s (pair p q i w) places t × Downwards (net s) p q r.cells (seat places)
+    RewroteAt K s (pair p q i w) places t × Downwards (net s) p q (length r.cells.now) (seat places)

@@ -1,12 +1,12 @@
 // How a draft is made, filled and sealed.
 ghost use Rattle.std.specs.Prelude.{◌≡◌, ℕ, ◌+◌, ◌*◌, ◌/◌, ◌%◌, ◌^◌, ◌<◌, ◌≤◌, true, false, ◌&&◌, ltb, length, IfOk, if◌then◌else◌, ◌==◌, nat_le, nat_lt};
-ghost use Rattle.nets.specs.Layout.{slots, slot_of, code, decode, goal};
+ghost use Rattle.nets.specs.Layout.{slots, decode, goal};
 ghost use Rattle.nets.specs.Views.{at};
 ghost use Rattle.nets.specs.Drafts.{plan, planned, nameable, Begun, CellAdded, LinkNamed, Attempt, Sealing};
 ghost use Rattle.nets.specs.Inner.{Searched, SearchedCell, Tested, Front};
 
 use crate::draft::Draft;
-use crate::link::Link;
+use crate::links::Links;
 use crate::spot::Spot;
 use crate::table::Table;
 use std::alloc::{AllocError, Global};
@@ -16,7 +16,7 @@ impl Draft {
     pub fn new(heap: Global, ends: u8, loops: u32) -> Result<Draft, AllocError>
         ensures { IfOk result (λ d. Begun ends loops (plan d)) }
     {
-        let links = vec![in heap; Link { row: 0, port: 0 }; 4376]?;
+        let links = Links::new(heap)?;
         let kinds = vec![in heap; 0u8; 1024]?;
         let arities = vec![in heap; 0u8; 1024]?;
         Ok(Draft {
@@ -50,8 +50,7 @@ impl Draft {
         if !self.has(from) || !is_nameable(to) {
             return false;
         }
-        let slot = slot_of(link_of(from));
-        self.links[slot] = link_of(to);
+        self.links.name(from.link(), to.link());
         true
     }
 
@@ -74,26 +73,6 @@ fn is_nameable(spot: Spot) -> bool
         Spot::End(e) => e < 64,
         Spot::Port(r, j) => r < 1024 && j < 3,
     }
-}
-
-// The row and port of a spot.
-fn link_of(spot: Spot) -> Link
-    requires { code (at spot) < slots }
-    ensures { slot_of result ≡ code (at spot) }
-{
-    match spot {
-        Spot::End(e) => Link {
-            row: 1030 + e,
-            port: 0,
-        },
-        Spot::Port(row, port) => Link { row, port },
-    }
-}
-
-fn slot_of(link: Link) -> usize
-    ensures { result ≡ slot_of link }
-{
-    link.row as usize * 4 + link.port as usize
 }
 
 impl Draft {
@@ -163,37 +142,8 @@ impl Draft {
         requires { planned (plan self.now) (at spot) ≡ true }
         ensures { Tested (plan self.now) (at spot) result }
     {
-        let here = slot_of(link_of(spot));
-        let there = slot_of(self.links[here]);
-        if there == here {
-            return true;
-        }
-        if !self.has_slot(there) {
-            return true;
-        }
-        !self.names(there, here)
-    }
-
-    // Whether the link at one slot names the other.
-    fn names(&self, from: usize, to: usize) -> bool
-        requires { from < slots }
-        ensures { result ≡ (goal self.now.links.items from == to) }
-    {
-        slot_of(self.links[from]) == to
-    }
-
-    // Whether the slot is that of a spot that is there.
-    fn has_slot(&self, slot: usize) -> bool
-        requires { slot < slots }
-        ensures { result ≡ planned (plan self.now) (decode slot) }
-    {
-        let row = slot / 4;
-        let port = slot % 4;
-        if port == 0 && row >= 1030 {
-            row - 1030 < self.ends as usize
-        } else {
-            row < self.cells as usize && port <= self.arities[row] as usize
-        }
+        let mate = self.links.mate(spot);
+        mate == spot || !self.has(mate) || self.links.mate(mate) != spot
     }
 }
 

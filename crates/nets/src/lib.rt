@@ -8,6 +8,7 @@ pub mod fault;
 mod fitting;
 mod lay;
 pub mod link;
+mod links;
 pub mod occupancy;
 mod rewrite;
 mod seats;

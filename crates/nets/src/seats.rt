@@ -1,11 +1,13 @@
 // Where the new cells of a rewrite stand.
-ghost use Rattle.std.specs.Prelude.{◌≡◌, ◌+◌, ◌<◌, ◌≤◌, true, vec_len};
+ghost use Rattle.std.specs.Prelude.{◌≡◌, ◌+◌, ◌<◌, ◌≤◌, true, map, length, vec_len};
 ghost use Rattle.nets.specs.ByBook.{seat};
 ghost use Rattle.nets.specs.Rewiring.{Places, Filled};
-ghost use Rattle.nets.specs.Seating.{bits_below, Flipped, FlippedIf, Highest, Taken, Seated};
+ghost use Rattle.nets.specs.Seating.{bits_below, Flipped, Highest, Taken, Seated};
+
+use books::table::NewCell;
 
 // The places of the new cells, which are marked as occupied; the pair's places that no new cell takes are marked as vacant.
-pub(crate) fn take_places(map: &mut [u8; 128], left: u16, right: u16, cells: u8) -> [u16; 4]
+pub(crate) fn take_places(map: &mut [u8; 128], left: u16, right: u16, cells: usize) -> [u16; 4]
     requires first { left < 1024 }
     requires second { right < 1024 }
     requires few { cells ≤ 4 }
@@ -14,21 +16,15 @@ pub(crate) fn take_places(map: &mut [u8; 128], left: u16, right: u16, cells: u8)
 {
     let low = left.min(right);
     let high = left.max(right);
-    flip_if(map, low, cells < 1);
-    flip_if(map, high, cells < 2);
-    let third = take_vacant(map, 2 < cells);
-    let fourth = take_vacant(map, 3 < cells);
-    [low, high, third, fourth]
-}
-
-// Turns the bit of a place if that is wanted.
-fn flip_if(map: &mut [u8; 128], place: u16, wanted: bool)
-    requires { place < 1024 }
-    ensures { FlippedIf wanted map.old place map.new }
-{
-    if wanted {
-        flip(map, place);
+    if cells < 1 {
+        flip(map, low);
     }
+    if cells < 2 {
+        flip(map, high);
+    }
+    let third = if cells > 2 { take_vacant(map) } else { 0 };
+    let fourth = if cells > 3 { take_vacant(map) } else { 0 };
+    [low, high, third, fourth]
 }
 
 // Turns the bit of a place.
@@ -40,14 +36,11 @@ fn flip(map: &mut [u8; 128], place: u16)
     map[at / 8] ^= 1u8 << (at % 8);
 }
 
-// Takes the highest vacant place if that is wanted.
-fn take_vacant(map: &mut [u8; 128], wanted: bool) -> u16
-    requires { wanted ≡ true → bits_below map.old 1024 < 1024 }
-    ensures { Taken wanted map.old result map.new }
+// Takes the highest vacant place.
+fn take_vacant(map: &mut [u8; 128]) -> u16
+    requires { bits_below map.old 1024 < 1024 }
+    ensures { Taken true map.old result map.new }
 {
-    if !wanted {
-        return 0;
-    }
     match highest_vacant(map) {
         Some(place) => {
             flip(map, place);
@@ -70,14 +63,16 @@ fn highest_vacant(map: &[u8; 128]) -> Option<u16>
     None
 }
 
-// Writes the first n values at the first n places.
-pub(crate) fn fill(items: &mut Vec<u8>, values: &[u8; 4], n: u8, places: &[u16; 4])
-    requires long { vec_len items.old ≡ 1024 }
-    requires few { n ≤ 4 }
-    requires places { Places (seat places.now) n }
-    ensures { Filled items.old.items values.now n places.now items.new.items }
+// Writes kinds and arities of the new cells at their places.
+pub(crate) fn fill(kinds: &mut Vec<u8>, arities: &mut Vec<u8>, cells: &[NewCell], places: &[u16; 4])
+    requires long { (vec_len kinds.old ≡ 1024) × (vec_len arities.old ≡ 1024) }
+    requires few { length cells.now ≤ 4 }
+    requires places { Places (seat places.now) (length cells.now) }
+    ensures kinds { Filled kinds.old.items (map (λ c. c.kind) cells.now) (length cells.now) places.now kinds.new.items }
+    ensures arities { Filled arities.old.items (map (λ c. c.arity) cells.now) (length cells.now) places.now arities.new.items }
 {
-    for i in 0..n {
-        items[places[i as usize] as usize] = values[i as usize];
+    for (cell, place) in cells.iter().zip(places) {
+        kinds[*place as usize] = cell.kind;
+        arities[*place as usize] = cell.arity;
     }
 }

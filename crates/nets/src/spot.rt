@@ -1,6 +1,29 @@
+// The spots of a net.
+ghost use Rattle.std.specs.Prelude.{◌≡◌, ◌^◌, ◌<◌};
+ghost use Rattle.nets.specs.Layout.{code, link_of};
+ghost use Rattle.nets.specs.Views.{at};
+
+use crate::link::Link;
+
 /// Where a wire can end: an end of the net, or a port of the cell in a place. Port 0 is the principal port.
 #[derive(Clone, Copy, PartialEq, Eq, Debug)]
 pub enum Spot {
     End(u16),
     Port(u16, u8),
+}
+
+impl Spot {
+    /// The link that names it.
+    pub fn link(self) -> Link
+        requires { code (at self) < 2 ^ 18 }
+        ensures { result ≡ link_of (at self) }
+    {
+        match self {
+            Spot::End(e) => Link {
+                row: 1030 + e,
+                port: 0,
+            },
+            Spot::Port(row, port) => Link { row, port },
+        }
+    }
 }

@@ -1,29 +1,27 @@
 // The table of a net.
 ghost use Rattle.std.specs.Prelude.{◌≡◌, ℕ, ◌^◌, ◌<◌, ◌≤◌, length, slice_index};
-ghost use Rattle.nets.specs.Layout.{slots, goal, NamesStanding, NamesBack, NamesOther};
+ghost use Rattle.nets.specs.Layout.{NamesStanding, NamesBack, NamesOther};
 
-use crate::link::Link;
+use crate::links::Links;
 
 /// A net: kind and arity of the cell in each of the places 0 to 1,023, one bit a place that says whether a cell stands there,
 /// the links in four slots a row, how many ends there are, and how many loops. Its links are mutual:
 /// each port of a cell and each end is linked with exactly one other, never itself.
 #[derive(Drop)]
 pub struct Table {
-    pub(crate) links: Vec<Link>,
+    pub(crate) links: Links,
     pub(crate) kinds: Vec<u8>,
     pub(crate) arities: Vec<u8>,
     pub(crate) occupied: [u8; 128],
     pub(crate) ends: u8,
     pub(crate) loops: u32,
-    ghost long: { length links.items ≡ slots },
-    ghost inside: { (k : ℕ) → k < slots → goal links.items k < slots },
     ghost every: { length kinds.items ≡ 1024 },
     ghost all: { length arities.items ≡ 1024 },
     ghost ports: { (r : ℕ) → slice_index arities.items r ≤ 2 },
     ghost wide: { length occupied ≡ 128 },
     ghost few: { ends ≤ 64 },
     ghost counted: { loops < 2 ^ 30 },
-    ghost standing: { NamesStanding links.items arities.items occupied ends },
-    ghost back: { NamesBack links.items arities.items occupied ends },
-    ghost other: { NamesOther links.items arities.items occupied ends },
+    ghost standing: { NamesStanding links.targets.items arities.items occupied ends },
+    ghost back: { NamesBack links.targets.items arities.items occupied ends },
+    ghost other: { NamesOther links.targets.items arities.items occupied ends },
 }

@@ -1,11 +1,9 @@
 // What a table tells of its net.
 ghost use Rattle.std.specs.Prelude.{◌≡◌, ℕ, ◌<◌, sum_by, count_ones};
 ghost use Rattle.nets.specs.Meaning.{net, content, arity_at, cells_below};
-ghost use Rattle.nets.specs.Layout.{slot_of, slots, decode};
 ghost use Rattle.nets.specs.Views.{at, Mated};
-ghost use Rattle.nets.specs.Inner.{Slotted};
+ghost use Rattle.nets.specs.Inner.{there};
 
-use crate::link::Link;
 use crate::occupancy::{count_set, is_occupied};
 use crate::spot::Spot;
 use crate::table::Table;
@@ -37,57 +35,30 @@ impl Table {
     pub fn kind(&self, place: u16) -> Option<u8>
         ensures { result ≡ (net self.now).kind place }
     {
-        if is_occupied(&self.occupied, place) {
-            Some(self.kinds[place as usize])
-        } else {
-            None
-        }
+        is_occupied(&self.occupied, place).then(|| self.kinds[place as usize])
     }
 
     /// The arity of the cell in a place, if one stands there.
     pub fn arity(&self, place: u16) -> Option<u8>
         ensures { result ≡ arity_at (content self.now) place }
     {
-        if is_occupied(&self.occupied, place) {
-            Some(self.arities[place as usize])
-        } else {
-            None
-        }
+        is_occupied(&self.occupied, place).then(|| self.arities[place as usize])
     }
 
     /// What a spot is linked with, if it is there.
     pub fn mate(&self, spot: Spot) -> Option<Spot>
         ensures { Mated (net self.now) (at spot) result }
     {
-        let slot = self.slot(spot)?;
-        Some(spot_at(self.links[slot]))
+        self.has(spot).then(|| self.links.mate(spot))
     }
 
-    // The slot of a spot, if it is there.
-    fn slot(&self, spot: Spot) -> Option<usize>
-        ensures { Slotted (content self.now) (at spot) result }
+    // Whether the spot is there.
+    fn has(&self, spot: Spot) -> bool
+        ensures { result ≡ there (content self.now) (at spot) }
     {
         match spot {
-            Spot::End(e) if e < self.ends as u16 => Some((1030 + e as usize) * 4),
-            Spot::End(_) => None,
-            Spot::Port(r, j) => match self.arity(r) {
-                Some(a) if j <= a => Some(r as usize * 4 + j as usize),
-                _ => None,
-            },
+            Spot::End(e) => e < self.ends as u16,
+            Spot::Port(r, j) => is_occupied(&self.occupied, r) && j <= self.arities[r as usize],
         }
-    }
-}
-
-// The spot that a link names.
-fn spot_at(link: Link) -> Spot
-    requires { slot_of link < slots }
-    ensures { at result ≡ decode (slot_of link) }
-{
-    let slot = link.row as u32 * 4 + link.port as u32;
-    let row = (slot / 4) as u16;
-    if slot % 4 == 0 && slot >= 4120 {
-        Spot::End(row - 1030)
-    } else {
-        Spot::Port(row, (slot % 4) as u8)
     }
 }

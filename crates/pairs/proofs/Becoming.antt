@@ -1,7 +1,7 @@
 -- Which pairs a rewriting makes: those whose cells are new, or were linked with auxiliary ports of the pair by their principal ports. Assumes nothing.
 use Rattle.std.proofs.Common.{◌≡◌, ℕ, zero, suc, ◌<◌, ◌≤◌, ◌≢◌, ◌⊎◌, List, ◌++◌, length, get_or, take, Some, None, Option, sym, refl, ap, ◌∙◌, subst, inl, inr, arith}
 use Rattle.std.specs.List.{ContainsAt as Has, slice_get}
-use Rattle.std.proofs.ByRecursion.{has_append_left, has_append_right}
+use Rattle.std.proofs.ByRecursion.{has_append_left, has_append_right, has_append_cases}
 use Rattle.std.proofs.lemmas.Bool.{cases_lt}
 use Rattle.std.proofs.lemmas.List.{get_or-take, length-take-le}
 use Rattle.calculus.specs.Spots.{Spot, end, port}
@@ -16,7 +16,7 @@ use Rattle.calculus.proofs.Wiring.{number}
 use Rattle.nets.specs.ByBook.{seat}
 use Rattle.pairs.specs.Pairs.{lower, Became}
 use Rattle.pairs.specs.Gathering.{neighbours}
-use Rattle.pairs.proofs.Members.{has_split, has_take, take_has, Apart, apart-append, at_apart}
+use Rattle.pairs.proofs.Members.{has_take, take_has, Apart, apart-append, at_apart}
 use Rattle.pairs.proofs.Meeting.{two_cells}
 use Rattle.pairs.proofs.Near.{near_beside, beside_near, near_apart}
 
@@ -136,13 +136,13 @@ module _ (K : RuleBook) (laws : Laws K) (A B : Net) (G : Good K A) (P : CPair) (
               omega arith
 
           out : Has touched r → ⊥
-          out h = elim (has_split (neighbours A P.left P.right) (take (length P.rule.cells) ps) r h) [
+          out h = elim (has_append_cases (neighbours A P.left P.right) (take (length P.rule.cells) ps) r h) [
             | inl g ↦ not_beside r s facing g
             | inr g ↦ (let t = has_new r g in old t.0 t.1 t.2 t.3)
           ]
 
           out' : Has touched s → ⊥
-          out' h = elim (has_split (neighbours A P.left P.right) (take (length P.rule.cells) ps) s h) [
+          out' h = elim (has_append_cases (neighbours A P.left P.right) (take (length P.rule.cells) ps) s h) [
             | inl g ↦ not_beside s r returning g
             | inr g ↦ (let t = has_new s g in unused t.0 t.1 t.2 t.3)
           ]
@@ -256,7 +256,7 @@ module _ (K : RuleBook) (laws : Laws K) (A B : Net) (G : Good K A) (P : CPair) (
     )
       where
         never : Active K A Q → Disjoint P Q → ⊥
-        never was d = elim (has_split (neighbours A P.left P.right) (take (length P.rule.cells) ps) Q.left (lower_left h)) [
+        never was d = elim (has_append_cases (neighbours A P.left P.right) (take (length P.rule.cells) ps) Q.left (lower_left h)) [
           | inl g ↦
               (let t = near_beside A G.twice P.left P.right Q.left g in
               let z : port Q.right 0 ≡ port t.0 t.1 = sym was.facing ∙ t.4 in

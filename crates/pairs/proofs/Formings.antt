@@ -1,5 +1,5 @@
 -- The pairs gathered after a rewrite are those that became active. Assumes nothing.
-use Rattle.std.proofs.Common.{◌≡◌, ℕ, ◌<◌, ◌≤◌, ◌⊎◌, List, ◌++◌, length, get_or, take, sym, ap, ◌∙◌, subst, inl, inr, arith}
+use Rattle.std.proofs.Common.{◌≡◌, ℕ, ◌<◌, ◌≤◌, ◌⊎◌, List, ◌++◌, length, get_or, take, Option, Some, sym, ap, ◌∙◌, subst, inl, inr, arith}
 use Rattle.std.specs.List.{ContainsAt as Has}
 use Rattle.calculus.specs.Books.{RuleBook, Laws}
 use Rattle.calculus.specs.Nets.{Net, Good, Active, Pair as CPair}
@@ -10,7 +10,7 @@ use Rattle.nets.specs.declared.table.Table.{Table}
 use Rattle.nets.specs.Meaning.{net, OfBook}
 use Rattle.nets.specs.ByBook.{RewroteAt}
 use Rattle.nets.proofs.Standing.{good}
-use Rattle.pairs.specs.Pairs.{waiting, lower, Became}
+use Rattle.pairs.specs.Pairs.{waiting, lower, Became, PairAt}
 use Rattle.pairs.specs.Forming.{FormedBy}
 use Rattle.pairs.specs.Gathering.{neighbours, Whole, Gathered}
 use Rattle.pairs.proofs.Members.{apart_at}
@@ -24,6 +24,14 @@ its_cells K A laws G P Q p x y e side = sym (ap (λ (w : Waiting). w.cells) e) �
     go : (P ≡ Q) ⊎ Disjoint P Q → length Q.rule.cells ≡ length P.rule.cells
     go (inl z) = ap (λ (v : CPair). length v.rule.cells) (sym z)
     go (inr d) = elim side [ inl z ↦ absurd (d.left_left (sym z)) | inr z ↦ absurd (d.left_right (sym z)) ]
+
+-- the rule of a pair has at most four new cells
+pub few_cells : (K : RuleBook) (A : Net) → Laws K → (r : ℕ) (o : Option Waiting) (p : Waiting) → o ≡ Some p → PairAt K A r o → p.cells ≤ 4
+few_cells K A laws r o p e f =
+    let h = subst (PairAt K A r) e f in
+    let few = (laws.rules h.0.position h.0.rule h.1.listed).few in
+    let n = ap (λ (w : Waiting). w.cells) h.2 in
+    omega arith
 
 module _ (K : RuleBook) (laws : Laws K) (s t : Table) (P : CPair) (places : List ℕ) (ofb : OfBook K s) (W : RewroteAt K s P places t) (four : length places ≡ 4)
     (cs : List ℕ) (few : length cs ≤ 8) (is : cs ≡ neighbours (net s) P.left P.right ++ take (length P.rule.cells) places) where

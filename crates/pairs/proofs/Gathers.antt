@@ -1,7 +1,8 @@
 -- Gathering pairs place by place. Assumes nothing.
-use Rattle.std.proofs.Common.{◌≡◌, ℕ, ◌+◌, ◌<◌, ◌≢◌, ◌⊎◌, List, [], ◌∷◌, ◌++◌, length, get_or, take, Some, None, sym, refl, ap, ◌∙◌, subst, ap₂, inl, inr, arith}
+use Rattle.std.proofs.Common.{◌≡◌, ℕ, ◌+◌, ◌<◌, ◌≢◌, ◌⊎◌, List, [], ◌∷◌, ◌++◌, length, get_or, take, Option, Some, None, Bool, eqb, sym, ap, ◌∙◌, subst, ap₂, inl, inr, arith}
 use Rattle.std.specs.List.{ContainsAt as Has, slice_get}
-use Rattle.std.proofs.lemmas.Bool.{cases_lt}
+use Rattle.std.specs.Bool.{then_some}
+use Rattle.std.proofs.lemmas.Bool.{cases_lt, cases_eq, eq-eqb, ne_eqb}
 use Rattle.std.proofs.lemmas.List.{take_more, length-map}
 use Rattle.std.proofs.ByRecursion.{has_get_or, has_append_left, has_push, has_push_cases}
 use Rattle.calculus.specs.Books.{RuleBook, Laws}
@@ -9,9 +10,9 @@ use Rattle.calculus.specs.Nets.{Net, Good, Active, Pair as CPair}
 use Rattle.calculus.specs.Theorems.{Disjoint}
 use Rattle.calculus.proofs.Respects.{pairs_apart_lem}
 use Rattle.strategies.specs.declared.pair.Pair.{Pair as Waiting}
-use Rattle.pairs.specs.Pairs.{waiting, lower, InOrder, PairAt}
-use Rattle.pairs.specs.Gathering.{least, put, LedBy, Whole, Gathered}
-use Rattle.pairs.proofs.Members.{has_none, has_take}
+use Rattle.pairs.specs.Pairs.{waiting, lower, least, InOrder, PairAt, LedBy}
+use Rattle.pairs.specs.Gathering.{put, Whole, Gathered}
+use Rattle.pairs.proofs.Members.{has_take}
 use Rattle.pairs.proofs.Becoming.{lower_side}
 use Rattle.pairs.proofs.Sharing.{half}
 use Rattle.pairs.proofs.Putting.{has_put, put_first, put_kept, length_put, map_put, up_put, up_rises, rises_up}
@@ -38,10 +39,6 @@ module _ (K : RuleBook) (laws : Laws K) (A : Net) (G : Good K A) where
       go (inr d) (inr s) (inl t) = absurd (d.right_left (sym s ∙ e ∙ t))
       go (inr d) (inr s) (inr t) = absurd (d.right_right (sym s ∙ e ∙ t))
 
-  -- the pair at a place that leads none
-  pub led_none : (r : ℕ) → PairAt K A r None → LedBy K A r None
-  led_none r n P act e = elim (lower_side P) [ inl s ↦ (n P act).0 (sym s ∙ e) | inr s ↦ (n P act).1 (sym s ∙ e) ]
-
   pub led_other : (r : ℕ) (p : Waiting) → PairAt K A r (Some p) → least p ≢ r → LedBy K A r None
   led_other r p (P, x, w, side) n Q y e = go (pairs_apart_lem K A P Q laws G x y) side (lower_side Q)
     where
@@ -52,16 +49,11 @@ module _ (K : RuleBook) (laws : Laws K) (A : Net) (G : Good K A) where
       go (inr d) (inr s) (inl t) = d.right_left (s ∙ sym e ∙ t)
       go (inr d) (inr s) (inr t) = d.right_right (s ∙ sym e ∙ t)
 
-  pub none_gathered : Gathered K A [] []
-  none_gathered = record {
-    pairs = [];
-    order = record {
-      each = λ P h. absurd (has_none P h);
-      all = λ P t. absurd (has_none (lower P) t.1);
-      rising = λ i j P Q h e f. absurd (let z : ◌≡◌ {A = ℕ} 0 1 = cc in omega arith);
-    };
-    same = refl;
-  }
+  pub led_if : (r : ℕ) (p : Waiting) → PairAt K A r (Some p) → (o : Option Waiting) → o ≡ then_some (eqb (least p) r) p → LedBy K A r o
+  led_if r p x o e = elim (cases_eq (least p) r) [
+    | inl y ↦ subst (LedBy K A r) (sym (e ∙ ap (λ (b : Bool). then_some b p) (eq-eqb (least p) r y))) (x.0, x.1, x.2, ap least x.2 ∙ y)
+    | inr n ↦ subst (LedBy K A r) (sym (e ∙ ap (λ (b : Bool). then_some b p) (ne_eqb (least p) r n))) (led_other r p x n)
+  ]
 
   module _ (cs : List ℕ) (i : ℕ) (h : i < length cs) (ps : List Waiting) (D : Gathered K A (take i cs) ps) where
     more : take (i + 1) cs ≡ take i cs ++ get_or cs i 0 ∷ []

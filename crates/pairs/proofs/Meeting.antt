@@ -1,5 +1,6 @@
 -- The active pair at a place, by kinds and facing. Assumes nothing.
-use Rattle.std.proofs.Common.{◌≡◌, ℕ, ◌<◌, ◌≤◌, ◌≢◌, ◌⊎◌, Some, None, sym, refl, ap, ◌∙◌, subst, inl, inr, arith}
+use Rattle.std.proofs.lemmas.List.{length-map}
+use Rattle.std.proofs.Common.{◌≡◌, ℕ, ◌<◌, ◌≤◌, ◌≢◌, ◌⊎◌, length, Some, None, sym, refl, ap, ◌∙◌, subst, inl, inr, arith}
 use Rattle.calculus.specs.Spots.{Spot, port}
 use Rattle.calculus.specs.Books.{RuleBook, Laws}
 use Rattle.calculus.specs.Nets.{Net, Active, Pair as CPair}
@@ -88,12 +89,19 @@ module _ (K : RuleBook) (laws : Laws K) (A : Net) (twice : (x : Spot) → A.mate
         rs : A.mate (port r 0) ≢ port r 0 → r ≢ s
         rs n e = n (f ∙ ap (λ (v : ℕ). port v 0) (sym e))
 
+        many : length F.rule.cells ≡ length w.cells.now
+        many = sym (ap length F.depicts.kinds) ∙ length-map w.cells.now (λ c. c.kind)
+
+        -- the rule has few new cells
+        pub few : length w.cells.now ≤ 4
+        few = let l = (laws.rules F.position F.rule F.listed).few in let e = many in omega arith
+
         ordered : F.rule.left ≤ F.rule.right
         ordered = (laws.rules F.position F.rule F.listed).order
 
         -- the cell in r is L
-        pub as_left : (k < l) ⊎ ((k ≡ l) × (r < s)) → PairAt K A r (Some (record { left = r; right = s; cells = w.cells }))
-        as_left o = (P, act, (λ i. record { left = r; right = s; cells = sym F.depicts.cells i }), inl refl)
+        pub as_left : (k < l) ⊎ ((k ≡ l) × (r < s)) → PairAt K A r (Some (record { left = r; right = s; cells = length w.cells.now }))
+        as_left o = (P, act, (λ i. record { left = r; right = s; cells = many i }), inl refl)
           where
             P : CPair
             P = record { left = r; right = s; position = F.position; rule = F.rule }
@@ -117,8 +125,8 @@ module _ (K : RuleBook) (laws : Laws K) (A : Net) (twice : (x : Spot) → A.mate
             }
 
         -- the cell in r is R
-        pub as_right : A.mate (port r 0) ≢ port r 0 → (l < k) ⊎ ((l ≡ k) × (s ≤ r)) → PairAt K A r (Some (record { left = s; right = r; cells = w.cells }))
-        as_right n o = (P, act, (λ i. record { left = s; right = r; cells = sym F.depicts.cells i }), inr refl)
+        pub as_right : A.mate (port r 0) ≢ port r 0 → (l < k) ⊎ ((l ≡ k) × (s ≤ r)) → PairAt K A r (Some (record { left = s; right = r; cells = length w.cells.now }))
+        as_right n o = (P, act, (λ i. record { left = s; right = r; cells = many i }), inr refl)
           where
             P : CPair
             P = record { left = s; right = r; position = F.position; rule = F.rule }

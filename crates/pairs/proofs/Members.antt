@@ -1,6 +1,7 @@
 -- What lists have. Assumes nothing.
-use Rattle.std.proofs.Common.{◌≡◌, ℕ, zero, suc, ◌<◌, ◌≤◌, ◌⊎◌, List, [], ◌∷◌, ◌++◌, length, get_or, take, Some, sym, refl, ap, ◌∙◌, inl, inr, arith}
-use Rattle.std.specs.List.{ContainsAt as Has, slice_get}
+use Rattle.std.proofs.Common.{◌≡◌, ℕ, zero, suc, ◌<◌, ◌≤◌, ◌⊎◌, List, [], ◌∷◌, ◌++◌, length, get_or, take, Some, sym, refl, ap, ◌∙◌, subst, inl, inr, arith}
+use Rattle.std.specs.List.{ContainsAt as Has, slice_get, flat_map}
+use Rattle.std.proofs.ByRecursion.{has_append_left, has_append_right, has_append_cases}
 use Rattle.std.proofs.lemmas.List.{get_or-take, get_or_default, length-take-le}
 
 module _ {X : Type 0} where
@@ -17,13 +18,6 @@ module _ {X : Type 0} where
   has_cases y ys x (zero, h, e) = inl (e y)
   has_cases y ys x (suc k, h, e) = inr (k, omega arith, e)
 
-  pub has_split : (xs ys : List X) (x : X) → Has (xs ++ ys) x → Has xs x ⊎ Has ys x
-  has_split [] ys x h = inr h
-  has_split (y ∷ xs) ys x h = elim (has_cases y (xs ++ ys) x h) [
-    | inl e ↦ inl (0, omega arith, λ d. e)
-    | inr g ↦ elim (has_split xs ys x g) [ inl f ↦ inl (has_later y xs x f) | inr f ↦ inr f ]
-  ]
-
   pub has_nth : (xs : List X) (x : X) → Has xs x → (i : ℕ) × (slice_get xs i ≡ Some x)
   has_nth [] x h = absurd (has_none x h)
   has_nth (y ∷ ys) x h = elim (has_cases y ys x h) [
@@ -35,6 +29,19 @@ module _ {X : Type 0} where
   nth_has [] i x e = absurd (let z : ◌≡◌ {A = ℕ} 0 1 = cc in omega arith)
   nth_has (y ∷ ys) zero x e = let z : y ≡ x = cc in (0, omega arith, λ d. z)
   nth_has (y ∷ ys) (suc i) x e = has_later y ys x (nth_has ys i x e)
+
+  -- what the pieces of a flat map have
+  pub has_flat : {Y : Type 0} (f : Y → List X) (ys : List Y) (x : X) → Has (flat_map f ys) x → (y : Y) × Has ys y × Has (f y) x
+  has_flat f [] x h = absurd (has_none x h)
+  has_flat f (y ∷ ys) x h = elim (has_append_cases (f y) (flat_map f ys) x h) [
+    | inl g ↦ (y, (0, omega arith, λ d. refl), g)
+    | inr g ↦ (let t = has_flat f ys x g in let i = t.1 in (t.0, (suc i.0, omega arith, i.2), t.2))
+  ]
+
+  pub flat_has : {Y : Type 0} (f : Y → List X) (ys : List Y) (y : Y) (x : X) → Has ys y → Has (f y) x → Has (flat_map f ys) x
+  flat_has f [] y x h g = absurd (let l = h.1 in omega arith)
+  flat_has f (z ∷ ys) y x (zero, l, e) g = has_append_left (f z) (flat_map f ys) x (subst (λ (v : _). Has (f v) x) (sym (e z)) g)
+  flat_has f (z ∷ ys) y x (suc k, l, e) g = has_append_right (f z) (flat_map f ys) x (flat_has f ys y x (k, omega arith, e) g)
 
   -- the front of a list by its places
   pub has_take : (n : ℕ) (xs : List X) (d x : X) → n ≤ length xs → Has (take n xs) x → (i : ℕ) × (i < n) × (get_or xs i d ≡ x)
@@ -56,7 +63,7 @@ module _ {X : Type 0} where
   pub apart-append : (xs ys : List X) → Apart xs → Apart ys → ((x : X) → Has xs x → Has ys x → ⊥) → Apart (xs ++ ys)
   apart-append [] ys a b o = b
   apart-append (x ∷ xs) ys a b o = (
-    (λ h. elim (has_split xs ys x h) [ inl g ↦ a.0 g | inr g ↦ o x (has_first x xs) g ]),
+    (λ h. elim (has_append_cases xs ys x h) [ inl g ↦ a.0 g | inr g ↦ o x (has_first x xs) g ]),
     apart-append xs ys a.1 b (λ z g. o z (has_later x xs z g)),
   )
 
@@ -73,3 +80,10 @@ module _ {X : Type 0} where
     (λ h. let z = f 0 (suc h.0) (omega arith) (let l = h.1 in omega arith) (sym (h.2 d)) in omega arith),
     at_apart xs d (λ i j h k e. let z = f (suc i) (suc j) (omega arith) (omega arith) e in omega arith),
   )
+
+-- pieces of which each has no two that are one, and no two have anything in common
+pub apart_flat : {X Y : Type 0} (f : Y → List X) (ys : List Y) → Apart ys → ((y : Y) → Apart (f y)) → ((y z : Y) (x : X) → Has (f y) x → Has (f z) x → y ≡ z) → Apart (flat_map f ys)
+apart_flat f [] a each one = tt
+apart_flat f (y ∷ ys) a each one =
+    apart-append (f y) (flat_map f ys) (each y) (apart_flat f ys a.1 each one)
+    (λ x h g. let t = has_flat f ys x g in a.0 (subst (Has ys) (sym (one y t.0 x h t.2)) t.1))

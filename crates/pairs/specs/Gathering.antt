@@ -1,16 +1,11 @@
 -- What the private functions that gather pairs tell each other; no public contract cites it. Assumes nothing.
-use Rattle.std.specs.Prelude.{◌≡◌, ℕ, zero, suc, ◌<◌, ◌≤◌, min, Bool, true, false, cond, ◌≢◌, ◌⊎◌, List, [], ◌∷◌, ◌++◌, map, length, take, Some, None, Option, nat_lt, slice_index}
-use Rattle.std.specs.List.{ContainsAt as Has}
+use Rattle.std.specs.Prelude.{◌≡◌, ℕ, zero, suc, ◌<◌, ◌≤◌, Bool, true, false, cond, ◌≢◌, ◌⊎◌, List, [], ◌∷◌, map, length, Some, None, Option, nat_lt, slice_index}
+use Rattle.std.specs.List.{ContainsAt as Has, flat_map}
 use Rattle.calculus.specs.Spots.{Spot, end, port}
 use Rattle.calculus.specs.Books.{RuleBook}
 use Rattle.calculus.specs.Nets.{Net, Active, Pair as CPair}
 use Rattle.strategies.specs.declared.pair.Pair.{Pair as Waiting}
-use Rattle.pairs.specs.declared.noted.Noted.{Noted}
 use Rattle.pairs.specs.Pairs.{waiting, lower, InOrder}
-
--- the places that are noted
-abbrev pub noted : Noted → List ℕ
-noted n = take n.count n.places
 
 -- the cell whose principal port the spot is, if it is one
 abbrev pub cell_at : Spot → List ℕ
@@ -28,23 +23,18 @@ abbrev pub IsLeft : ℕ → ℕ → ℕ → ℕ → Bool → Type 0
 IsLeft k r l s true = (k < l) ⊎ ((k ≡ l) × (r < s))
 IsLeft k r l s false = (l < k) ⊎ ((l ≡ k) × (s ≤ r))
 
--- the cells whose principal ports are linked with auxiliary ports of the cells in the places p and q
-abbrev pub neighbours : Net → ℕ → ℕ → List ℕ
-neighbours A p q = ((cell_at (A.mate (port p 1)) ++ cell_at (A.mate (port p 2))) ++ cell_at (A.mate (port q 1))) ++ cell_at (A.mate (port q 2))
+-- the auxiliary ports of the cells in the places p and q
+abbrev pub ports : ℕ → ℕ → List Spot
+ports p q = port p 1 ∷ port p 2 ∷ port q 1 ∷ port q 2 ∷ []
 
--- the lower place of a pair that waits
-abbrev pub least : Waiting → ℕ
-least p = min p.left p.right
+-- the cells whose principal ports are linked with these ports
+abbrev pub neighbours : Net → ℕ → ℕ → List ℕ
+neighbours A p q = flat_map (λ x. cell_at (A.mate x)) (ports p q)
 
 -- x put in before the first that has a greater key
 abbrev pub put : {X : Type 0} → (X → ℕ) → X → List X → List X
 put key x [] = x ∷ []
-put key x (y ∷ ys) = cond (nat_lt (key x) (key y)) (x ∷ put key y ys) (y ∷ put key x ys)
-
--- the active pair whose lower cell stands in the place, or that there is none
-abbrev pub LedBy : RuleBook → Net → ℕ → Option Waiting → Type 0
-LedBy K A r (Some p) = (P : CPair) × Active K A P × (waiting P ≡ p) × (lower P ≡ r)
-LedBy K A r None = (P : CPair) → Active K A P → lower P ≢ r
+put key x (y ∷ ys) = cond (nat_lt (key x) (key y)) (x ∷ y ∷ ys) (y ∷ put key x ys)
 
 -- no two places are one, and an active pair with one cell among them has both there
 pub record Whole (K : RuleBook) (A : Net) (places : List ℕ) : Type 0 where

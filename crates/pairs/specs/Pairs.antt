@@ -27,6 +27,15 @@ abbrev pub PairAt : RuleBook → Net → ℕ → Option Waiting → Type 0
 PairAt K A r (Some p) = (P : CPair) × Active K A P × (waiting P ≡ p) × ((P.left ≡ r) ⊎ (P.right ≡ r))
 PairAt K A r None = (P : CPair) → Active K A P → (P.left ≢ r) × (P.right ≢ r)
 
+-- the lower place of a pair that waits
+abbrev pub least : Waiting → ℕ
+least p = min p.left p.right
+
+-- the active pair whose lower cell is in the place, or that there is none
+abbrev pub LedBy : RuleBook → Net → ℕ → Option Waiting → Type 0
+LedBy K A r (Some p) = (P : CPair) × Active K A P × (waiting P ≡ p) × (lower P ≡ r)
+LedBy K A r None = (P : CPair) → Active K A P → lower P ≢ r
+
 -- a net whose cells stand in places below 1,024 has at most 512 active pairs
 abbrev pub FewPairs : Type 0
 FewPairs =

@@ -2,8 +2,6 @@
 #![tactic(auto)]
 
 pub mod active;
-pub mod formed;
 mod gather;
 pub mod laws;
-mod noted;
 pub mod rewrite;

@@ -3,11 +3,12 @@ ghost use Rattle.nets.specs.ByBook.{PairDue};
 ghost use Rattle.pairs.specs.Forming.{Forms};
 
 use crate::active::active_pair;
-use crate::formed::Formed;
-use crate::gather::{add_first, gather, neighbours};
+use crate::gather::{gather, neighbours};
+use arrayvec::ArrayVec;
 use books::book::Book;
 use nets::fault::PairFault;
 use nets::table::Table;
+use strategies::pair::Pair;
 
 /// Rewrites the active pair of the cells in two places, L first, by the book's rule, and answers the pairs that became active by it, by rising lower place.
 /// Refused as `Table::rewrite_pair` is.
@@ -16,15 +17,15 @@ pub fn rewrite_pair<B: Book>(
     table: &mut Table,
     left: u16,
     right: u16,
-) -> Result<Formed, PairFault>
+) -> Result<ArrayVec<Pair, 4>, PairFault>
     ensures due { PairDue (B.meaning book.now) table.old left right table.new result }
     ensures forms { Forms (B.meaning book.now) table.old left right table.new result }
 {
-    let Some(pair) = active_pair(book, table, left) else {
-        return Err(PairFault::NotReady);
-    };
+    let pair = active_pair(book, table, left).ok_or(PairFault::NotReady)?;
     let mut cells = neighbours(table, left, right);
     let places = table.rewrite_pair(book, left, right)?;
-    add_first(&mut cells, &places, pair.cells);
+    cells
+        .try_extend_from_slice(&places[..pair.cells as usize])
+        .unwrap();
     Ok(gather(book, table, &cells))
 }

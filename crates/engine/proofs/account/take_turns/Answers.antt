@@ -8,4 +8,4 @@ pub returns : goal.returns
 returns g c =
     let a = c.try_pair.ensures in
     let b = c.rewrite_one.ensures in
-    (b.0 ++ a.0, called (drive c.args.limit c.drive.result) (tells_on g.B.Book.meaning g.S.Strategy.bag g.S.Strategy.putting g.S.Strategy.taking a.1 b.1) c.drive.ensures)
+    (b.0 ++ a.0, called (drive c.args.limit c.drive.result) (tells_on g.B.Book.meaning g.S.Strategy a.1 b.1) c.drive.ensures)

@@ -1,6 +1,7 @@
 use Rattle.std.proofs.Common.{vec_items}
-use Rattle.nets.specs.Rewiring.{Filled}
+use Rattle.nets.proofs.Filling.{Done}
 use Rattle.nets.proofs.seats.fill.Given as goal
 
-abbrev pub invariant-loop-i : goal.invariant-loop-i
-invariant-loop-i l = Filled (vec_items l.initial.items) l.values l.i l.places (vec_items l.items)
+abbrev pub invariant-loop-cell : goal.invariant-loop-cell
+invariant-loop-cell l =
+    Done l.cells l.cell-iterator.a.rest.now l.places l.cell-iterator.b.rest.now (vec_items l.initial.kinds) (vec_items l.kinds) (vec_items l.initial.arities) (vec_items l.arities)

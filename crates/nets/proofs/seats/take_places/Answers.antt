@@ -1,7 +1,64 @@
+use Rattle.std.proofs.Common.{◌≡◌, ℕ, ◌<◌, ◌≤◌, Bool, true, false, ltb, min, max, List, [], ◌∷◌, sym, refl, subst, arith}
+use Rattle.nets.specs.Seating.{FlippedIf, Taken, Seated}
 use Rattle.nets.proofs.Counting.{fourth_room}
 use Rattle.nets.proofs.seats.take_places.Goals as goal
+use Rattle.nets.proofs.seats.take_places.Goals.{then-cells-lt1, else-cells-lt1, then-cells-lt2, else-cells-lt2, then-cells-gt2, else-cells-gt2}
+
+is_less : (a b : ℕ) → a < b → true ≡ ltb a b
+is_less a b h = grind (arith)
+
+not_less : (a b : ℕ) → b ≤ a → false ≡ ltb a b
+not_less a b h = grind (arith)
+
+-- what each test leaves
+flipped : (n k p : ℕ) (ms : List ℕ) {ns os : List ℕ} → n < k → ns ≡ os → FlippedIf true ms p os → FlippedIf (ltb n k) ms p ns
+flipped n k p ms {ns} h e f = subst (λ (b : Bool). FlippedIf b ms p ns) (is_less n k h) (subst (λ (ns : List ℕ). FlippedIf true ms p ns) (sym e) f)
+
+left_alone : (n k p : ℕ) (ms : List ℕ) {ns : List ℕ} → k ≤ n → ns ≡ ms → FlippedIf (ltb n k) ms p ns
+left_alone n k p ms {ns} h e = subst (λ (b : Bool). FlippedIf b ms p ns) (not_less n k h) e
+
+taken : (n k : ℕ) (ms : List ℕ) {p q : ℕ} {ns os : List ℕ} → k < n → ns ≡ os → p ≡ q → Taken true ms q os → Taken (ltb k n) ms p ns
+taken n k ms {p} {q} {ns} {os} h e f g =
+    subst (λ (b : Bool). Taken b ms p ns) (is_less k n h) (subst (λ (ns : List ℕ). Taken true ms p ns) (sym e) (subst (λ (p : ℕ). Taken true ms p os) (sym f) g))
+
+not_taken : (n k p : ℕ) (ms : List ℕ) {ns : List ℕ} → n ≤ k → ns ≡ ms → Taken (ltb k n) ms p ns
+not_taken n k p ms {ns} h e = subst (λ (b : Bool). Taken b ms p ns) (not_less k n h) e
 
 pub take_vacant-fourth-requires : goal.take_vacant-fourth-requires
-take_vacant-fourth-requires c = λ w.
-    fourth_room c.args.cells c.min-low.result c.max-high.result c.take_vacant-third.result c.args.map.now c.flip_if.new.map c.flip_if-2.new.map c.take_vacant-third.new.map
-    c.requires.room c.flip_if.ensures c.flip_if-2.ensures c.take_vacant-third.ensures w
+take_vacant-fourth-requires c =
+    fourth_room c.args.cells c.min-low.result c.max-high.result c.if-cells-gt2.third c.args.map.now c.if-cells-lt1.map c.if-cells-lt2.map c.if-cells-gt2.map
+    c.requires.room
+    (elim c.if-cells-lt1.branch [ then-cells-lt1 w ↦ flipped c.args.cells 1 _ _ w.if-cells-lt1.true w.map-is w.flip.ensures | else-cells-lt1 w ↦ left_alone c.args.cells 1 _ _ w.if-cells-lt1.false w.map-is ])
+    (elim c.if-cells-lt2.branch [ then-cells-lt2 w ↦ flipped c.args.cells 2 _ _ w.if-cells-lt2.true w.map-is w.flip-then-cells-lt2.ensures | else-cells-lt2 w ↦ left_alone c.args.cells 2 _ _ w.if-cells-lt2.false w.map-is ])
+    (elim c.if-cells-gt2.branch [ then-cells-gt2 w ↦ taken c.args.cells 2 _ w.if-cells-gt2.true w.map-is w.third-is w.take_vacant-third.ensures | else-cells-gt2 w ↦ not_taken c.args.cells 2 _ _ w.if-cells-gt2.false w.map-is ])
+    (sym (is_less 3 c.args.cells c.if-cells-gt3.true))
+
+seated : (p q n low high : ℕ) {third fourth : ℕ} (ms ls rs ts : List ℕ) {ns : List ℕ} → low ≡ min p q → high ≡ max p q →
+    FlippedIf (ltb n 1) ms low ls → FlippedIf (ltb n 2) ls high rs → Taken (ltb 2 n) rs third ts → Taken (ltb 3 n) ts fourth ns → Seated p q n ms (low ∷ high ∷ third ∷ fourth ∷ []) ns
+seated p q n low high ms ls rs ts e f a b c d = record {
+  first = e;
+  second = f;
+  lefts = ls;
+  rights = rs;
+  thirds = ts;
+  low = subst (λ (r : ℕ). FlippedIf (ltb n 1) ms r ls) e a;
+  high = subst (λ (r : ℕ). FlippedIf (ltb n 2) ls r rs) f b;
+  third = c;
+  fourth = d;
+}
+
+pub returns-then-cells-gt3 : goal.returns-then-cells-gt3
+returns-then-cells-gt3 c =
+    seated c.args.left c.args.right c.args.cells c.min-low.result c.max-high.result c.args.map.now c.if-cells-lt1.map c.if-cells-lt2.map c.if-cells-gt2.map c.min-low.ensures c.max-high.ensures
+    (elim c.if-cells-lt1.branch [ then-cells-lt1 w ↦ flipped c.args.cells 1 _ _ w.if-cells-lt1.true w.map-is w.flip.ensures | else-cells-lt1 w ↦ left_alone c.args.cells 1 _ _ w.if-cells-lt1.false w.map-is ])
+    (elim c.if-cells-lt2.branch [ then-cells-lt2 w ↦ flipped c.args.cells 2 _ _ w.if-cells-lt2.true w.map-is w.flip-then-cells-lt2.ensures | else-cells-lt2 w ↦ left_alone c.args.cells 2 _ _ w.if-cells-lt2.false w.map-is ])
+    (elim c.if-cells-gt2.branch [ then-cells-gt2 w ↦ taken c.args.cells 2 _ w.if-cells-gt2.true w.map-is w.third-is w.take_vacant-third.ensures | else-cells-gt2 w ↦ not_taken c.args.cells 2 _ _ w.if-cells-gt2.false w.map-is ])
+    (taken c.args.cells 3 c.if-cells-gt2.map c.if-cells-gt3.true refl refl c.take_vacant-fourth.ensures)
+
+pub returns-else-cells-gt3 : goal.returns-else-cells-gt3
+returns-else-cells-gt3 c =
+    seated c.args.left c.args.right c.args.cells c.min-low.result c.max-high.result c.args.map.now c.if-cells-lt1.map c.if-cells-lt2.map c.if-cells-gt2.map c.min-low.ensures c.max-high.ensures
+    (elim c.if-cells-lt1.branch [ then-cells-lt1 w ↦ flipped c.args.cells 1 _ _ w.if-cells-lt1.true w.map-is w.flip.ensures | else-cells-lt1 w ↦ left_alone c.args.cells 1 _ _ w.if-cells-lt1.false w.map-is ])
+    (elim c.if-cells-lt2.branch [ then-cells-lt2 w ↦ flipped c.args.cells 2 _ _ w.if-cells-lt2.true w.map-is w.flip-then-cells-lt2.ensures | else-cells-lt2 w ↦ left_alone c.args.cells 2 _ _ w.if-cells-lt2.false w.map-is ])
+    (elim c.if-cells-gt2.branch [ then-cells-gt2 w ↦ taken c.args.cells 2 _ w.if-cells-gt2.true w.map-is w.third-is w.take_vacant-third.ensures | else-cells-gt2 w ↦ not_taken c.args.cells 2 _ _ w.if-cells-gt2.false w.map-is ])
+    (not_taken c.args.cells 3 0 c.if-cells-gt2.map c.if-cells-gt3.false refl)

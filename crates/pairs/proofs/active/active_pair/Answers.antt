@@ -1,7 +1,7 @@
-use Rattle.std.proofs.Common.{sym}
+use Rattle.std.proofs.Common.{sym, arith}
 use Rattle.nets.specs.Meaning.{net}
 use Rattle.nets.proofs.Standing.{twice}
-use Rattle.pairs.proofs.Meeting.{no_cell, no_other, no_second, no_rule, as_left, as_right}
+use Rattle.pairs.proofs.Meeting.{few, no_cell, no_other, no_second, no_rule, as_left, as_right}
 use Rattle.pairs.proofs.active.active_pair.Goals as goal
 
 pub returns-in_err-kind : goal.returns-in_err-kind
@@ -26,14 +26,20 @@ returns-in_err-rule g c =
     (no_rule (g.B.Book.meaning c.args.book.now) (g.met.B.Book.lawful c.args.book.now) (net c.args.table.now) (twice c.args.table.now) c.args.place c.in_ok-other.other
     c.in_ok-other.ensures.0 c.in_ok-kind.kind c.in_ok-across.across (sym c.in_ok-kind.ensures) (sym c.in_ok-across.ensures) c.in_err-rule.ensures)
 
+pub overflow_cast-cells : goal.overflow_cast-cells
+overflow_cast-cells g c =
+    let n = few (g.B.Book.meaning c.args.book.now) (g.met.B.Book.lawful c.args.book.now) (net c.args.table.now) (twice c.args.table.now) c.args.place c.in_ok-other.other
+    c.in_ok-other.ensures.0 c.in_ok-kind.kind c.in_ok-across.across (sym c.in_ok-kind.ensures) (sym c.in_ok-across.ensures) c.in_ok-rule.rule.now c.in_ok-rule.ensures in
+    omega arith
+
 pub returns-then-is_left : goal.returns-then-is_left
 returns-then-is_left g c =
     as_left (g.B.Book.meaning c.args.book.now) (g.met.B.Book.lawful c.args.book.now) (net c.args.table.now) (twice c.args.table.now) c.args.place c.in_ok-other.other
     c.in_ok-other.ensures.0 c.in_ok-kind.kind c.in_ok-across.across (sym c.in_ok-kind.ensures) (sym c.in_ok-across.ensures)
-    c.in_ok-rule.rule.now c.in_ok-rule.ensures c.if-is_left.ensures
+    c.in_ok-rule.rule.now c.in_ok-rule.ensures (c.if-is_left.ensures)
 
-pub returns : goal.returns
-returns g c =
+pub returns-else-is_left : goal.returns-else-is_left
+returns-else-is_left g c =
     as_right (g.B.Book.meaning c.args.book.now) (g.met.B.Book.lawful c.args.book.now) (net c.args.table.now) (twice c.args.table.now) c.args.place c.in_ok-other.other
     c.in_ok-other.ensures.0 c.in_ok-kind.kind c.in_ok-across.across (sym c.in_ok-kind.ensures) (sym c.in_ok-across.ensures)
-    c.in_ok-rule.rule.now c.in_ok-rule.ensures c.in_ok-other.ensures.1 c.if-is_left.ensures
+    c.in_ok-rule.rule.now c.in_ok-rule.ensures c.in_ok-other.ensures.1 (c.if-is_left.ensures)

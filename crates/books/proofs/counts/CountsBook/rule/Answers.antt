@@ -1,4 +1,4 @@
--- The tables and their positions are the book's: one test, which antt computes.
+-- The tables are the book's: one test, which antt computes.
 use Rattle.std.proofs.Common.{refl}
 use Rattle.calculus.specs.Counts.{counts}
 use Rattle.books.proofs.Shelves.{shelved}

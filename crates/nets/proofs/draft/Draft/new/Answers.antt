@@ -2,8 +2,6 @@ use Rattle.std.proofs.Common.{◌≡◌, ℕ, ◌<◌, ◌≤◌, ◌⊎◌, Lis
 use lib.ListN.{length-replicate, get_or-replicate}
 use Rattle.std.proofs.lemmas.List.{get_or_past}
 use Rattle.std.proofs.lemmas.Result.{IfOk-from_err}
-use Rattle.nets.specs.declared.link.Link.{Link}
-use Rattle.nets.specs.Layout.{slot_of, goal as goal', nil}
 use Rattle.nets.specs.Drafts.{Begun, plan}
 use Rattle.nets.proofs.draft.Draft.new.Goals as goal
 
@@ -12,16 +10,6 @@ returns-in_err-kinds c = IfOk-from_err c.from_residual-in_err-kinds.result (λ d
 
 pub returns-in_err-arities : goal.returns-in_err-arities
 returns-in_err-arities c = IfOk-from_err c.from_residual-in_err-arities.result (λ d. Begun c.args.ends c.args.loops (plan d)) c.from_residual-in_err-arities.ensures.0
-
-blank : (n k : ℕ) → goal' (replicate n nil) k ≡ 0
-blank n k = go (cases k)
-  where
-    cases : (k : ℕ) → (k < n) ⊎ (n ≤ k)
-    cases k = grind (arith)
-
-    go : (k < n) ⊎ (n ≤ k) → goal' (replicate n nil) k ≡ 0
-    go (inl h) = ap slot_of (get_or-replicate n k nil nil h)
-    go (inr h) = ap slot_of (get_or_past (replicate n nil) k nil (let z = length-replicate n nil in omega arith))
 
 zeros : (n r : ℕ) → ◌≡◌ {A = ℕ} (get_or (replicate n 0) r 0) 0
 zeros n r = go (cases r)
@@ -35,12 +23,9 @@ zeros n r = go (cases r)
 
 pub invariant_of-result : goal.invariant_of-result
 invariant_of-result c =
-    let l : vec_items c.in_ok-links.links ≡ replicate 4376 nil = c.in_ok-links.ensures.items_if_clones_equal (λ y e. e) in
     let k : vec_items c.in_ok-kinds.kinds ≡ replicate 1024 0 = c.in_ok-kinds.ensures.items_if_clones_equal (λ y e. e) in
     let a : vec_items c.in_ok-arities.arities ≡ replicate 1024 0 = c.in_ok-arities.ensures.items_if_clones_equal (λ y e. e) in
     record {
-      long = ap length l ∙ length-replicate 4376 nil;
-      inside = λ i h. let z = ap (λ (xs : List Link). goal' xs i) l ∙ blank 4376 i in omega arith;
       every = ap length k ∙ length-replicate {A = ℕ} 1024 0;
       all = ap length a ∙ length-replicate {A = ℕ} 1024 0;
       ports = λ r. let z : get_or (vec_items c.in_ok-arities.arities) r 0 ≡ 0 = ap (λ (xs : List ℕ). get_or xs r 0) a ∙ zeros 1024 r in omega arith;

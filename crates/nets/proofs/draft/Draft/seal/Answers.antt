@@ -9,8 +9,6 @@ invariant_of-result c =
     let F = c.front.ensures in
     let s = c.in-None.ensures in
     record {
-      long = d.long;
-      inside = d.inside;
       every = d.every;
       all = d.all;
       ports = d.ports;

@@ -1,46 +1,41 @@
-use Rattle.std.proofs.Common.{◌≡◌, ℕ, Some, vec_len, sym, ap, ◌∙◌, subst, arith}
+use Rattle.std.proofs.Common.{ℕ, ◌≤◌, Some, sym, ap, ◌∙◌, subst}
 use Rattle.nets.specs.Meaning.{content}
 use Rattle.nets.specs.Fitting.{Fitting}
 use Rattle.nets.specs.Rewrites.{Suits, ports_at}
 use Rattle.nets.proofs.Standing.{some_kind}
 use Rattle.nets.proofs.Notings.{told_same}
-use Rattle.nets.proofs.Finishing.{p_on, q_on, p_low, q_low}
+use Rattle.nets.proofs.Finishing.{p_on, q_on}
+use Rattle.nets.proofs.Indexing.{q_kinds, q_arities, p_kind, q_kind, p_arity, q_arity}
 use Rattle.nets.proofs.table.Table.is_suited.Goals as goal
 
-pub byte-requires : goal.byte-requires
-byte-requires c =
-    let h = p_low c.args.self.now c.args.left c.args.right c.requires in
-    let e : 1024 ≡ vec_len c.args.self.now.kinds = sym c.args.self.now.every ∙ sym c.args.self.now.kinds.ok.0 in
-    omega arith
+pub index-requires-else-index-rule : goal.index-requires-else-index-rule
+index-requires-else-index-rule c = q_kinds c.args.self.now c.args.left c.args.right c.requires
 
-pub byte-requires-else-byte-rule : goal.byte-requires-else-byte-rule
-byte-requires-else-byte-rule c =
-    let h = q_low c.args.self.now c.args.left c.args.right c.requires in
-    let e : 1024 ≡ vec_len c.args.self.now.kinds = sym c.args.self.now.every ∙ sym c.args.self.now.kinds.ok.0 in
-    omega arith
+pub index-requires-3 : goal.index-requires-3
+index-requires-3 c = q_arities c.args.self.now c.args.left c.args.right c.requires
 
-pub byte-requires-2 : goal.byte-requires-2
-byte-requires-2 c =
-    let h = p_low c.args.self.now c.args.left c.args.right c.requires in
-    let e : 1024 ≡ vec_len c.args.self.now.arities = sym c.args.self.now.all ∙ sym c.args.self.now.arities.ok.0 in
-    omega arith
-
-pub byte-requires-3 : goal.byte-requires-3
-byte-requires-3 c =
-    let h = q_low c.args.self.now c.args.left c.args.right c.requires in
-    let e : 1024 ≡ vec_len c.args.self.now.arities = sym c.args.self.now.all ∙ sym c.args.self.now.arities.ok.0 in
-    omega arith
+pub fits-requires : goal.fits-requires
+fits-requires c =
+    let t = c.args.self.now in
+    let a = p_arity t c.args.left c.args.right c.requires c.index-2.result.now c.index-2.ensures in
+    let b = q_arity t c.args.left c.args.right c.requires c.index-3.result.now c.index-3.ensures in
+    record { ports = (subst (λ (x : ℕ). x ≤ 2) (sym a) (t.ports c.args.left), subst (λ (x : ℕ). x ≤ 2) (sym b) (t.ports c.args.right)) }
 
 pub returns : goal.returns
 returns c =
     let t = c.args.self.now in
-    told_same (Fitting c.byte-2.result c.byte-3.result c.args.rule.now) (Suits c.args.self.now c.args.left c.args.right c.args.rule.now) c.fits.result
+    let p = c.args.left in
+    let q = c.args.right in
+    let r = c.args.rule.now in
+    let k = p_kind t p q c.requires c.index.result.now c.index.ensures in
+    let l = q_kind t p q c.requires c.index-else-index-rule.result.now c.index-else-index-rule.ensures in
+    let a = p_arity t p q c.requires c.index-2.result.now c.index-2.ensures in
+    let b = q_arity t p q c.requires c.index-3.result.now c.index-3.ensures in
+    told_same (Fitting c.index-2.result.now c.index-3.result.now r) (Suits t p q r) c.fits.result
     (λ F. record {
-      left = some_kind (content t) c.args.left (p_on t c.args.left c.args.right c.requires) ∙ ap (λ (v : ℕ). Some v) (sym c.byte.ensures ∙ c.if-byte-rule.false);
-      right = some_kind (content t) c.args.right (q_on t c.args.left c.args.right c.requires) ∙ ap (λ (v : ℕ). Some v) (sym c.byte-else-byte-rule.ensures ∙ c.if-byte-rule-2.false);
-      fitting = subst (λ (a : ℕ). Fitting a (ports_at c.args.self.now c.args.right) c.args.rule.now) c.byte-2.ensures
-          (subst (λ (b : ℕ). Fitting c.byte-2.result b c.args.rule.now) c.byte-3.ensures F);
+      left = some_kind (content t) p (p_on t p q c.requires) ∙ ap (λ (v : ℕ). Some v) (sym k ∙ c.if-index-rule.false);
+      right = some_kind (content t) q (q_on t p q c.requires) ∙ ap (λ (v : ℕ). Some v) (sym l ∙ c.if-index-rule-2.false);
+      fitting = subst (λ (a : ℕ). Fitting a (ports_at t q) r) a (subst (λ (b : ℕ). Fitting c.index-2.result.now b r) b F);
     })
-    (λ S. subst (λ (b : ℕ). Fitting c.byte-2.result b c.args.rule.now) (sym c.byte-3.ensures)
-    (subst (λ (a : ℕ). Fitting a (ports_at c.args.self.now c.args.right) c.args.rule.now) (sym c.byte-2.ensures) S.fitting))
+    (λ S. subst (λ (b : ℕ). Fitting c.index-2.result.now b r) (sym b) (subst (λ (a : ℕ). Fitting a (ports_at t q) r) (sym a) S.fitting))
     c.fits.ensures

@@ -1,25 +1,20 @@
-use Rattle.std.proofs.Common.{◌≡◌, ◌+◌, ◌≤◌, vec_items, vec_len, sym, refl, ◌∙◌, arith}
+use Rattle.std.proofs.Common.{ℕ, ◌+◌, ◌<◌, ◌≤◌, length, vec_items, refl, ◌∙◌, arith}
 use Rattle.nets.specs.Meaning.{Content, content}
 use Rattle.nets.specs.Rewiring.{Places}
 use Rattle.nets.specs.ByBook.{seat}
 use Rattle.nets.specs.Rewrites.{ports_at}
 use Rattle.nets.proofs.Counting.{cells_are}
 use Rattle.nets.proofs.Seatings.{turn_small, places}
-use Rattle.nets.proofs.Finishing.{Did, relinked_of, downwards, p_on, q_on, p_low, q_low, room_of, few_loops, slots_other, slots_standing, slots_back, whole_links, few_ports, map_long, rewriting_K, of_book_K, seats_K}
+use Rattle.nets.proofs.Finishing.{Did, relinked_of, downwards, p_on, q_on, p_low, q_low, room_of, few_loops, slots_other, slots_standing, slots_back, few_ports, map_long, rewriting_K, of_book_K, seats_K}
+use Rattle.nets.proofs.Indexing.{q_arities, p_arity, q_arity, p_few, q_few}
 use Rattle.nets.proofs.table.Table.replace.Goals as goal
-use Rattle.nets.proofs.table.Table.replace.Goals.{After-take_places-places, After-fill-2}
+use Rattle.nets.proofs.table.Table.replace.Goals.{After-take_places-places, After-fill}
 
-pub byte-a-requires : goal.byte-a-requires
-byte-a-requires c =
-    let h = p_low c.args.self.now c.args.left c.args.right c.requires.facing in
-    let e : 1024 ≡ vec_len c.args.self.now.arities = sym c.args.self.now.all ∙ sym c.args.self.now.arities.ok.0 in
-    omega arith
+few : (x : ℕ) → x ≤ 2 → x < 3
+few x h = omega arith
 
-pub byte-b-requires : goal.byte-b-requires
-byte-b-requires c =
-    let h = q_low c.args.self.now c.args.left c.args.right c.requires.facing in
-    let e : 1024 ≡ vec_len c.args.self.now.arities = sym c.args.self.now.all ∙ sym c.args.self.now.arities.ok.0 in
-    omega arith
+pub index-b-requires : goal.index-b-requires
+index-b-requires c = q_arities c.args.self.now c.args.left c.args.right c.requires.facing
 
 pub take_places-places-requires : goal.take_places-places-requires
 take_places-places-requires c =
@@ -36,79 +31,68 @@ pub clear-top-requires : goal.clear-top-requires
 clear-top-requires c =
     let h = p_low c.args.self.now c.args.left c.args.right c.requires.facing in
     let t : c.order-turn.result ≤ 1 = omega (arith, c.order-turn.ensures, turn_small c.args.left c.args.right) in
-    let e = c.byte-a.ensures in
     record {
-      whole = record { long = c.args.self.now.long; inside = c.args.self.now.inside };
       first = omega arith;
       second = omega arith;
       apart = λ z. omega arith;
-      ports = omega (arith, c.args.self.now.ports c.args.left);
+      ports = few c.index-a.result.now (p_few c.args.self.now c.args.left c.args.right c.requires.facing c.index-a.result.now c.index-a.ensures);
     }
 
 pub clear-low-requires : goal.clear-low-requires
 clear-low-requires c =
     let h = q_low c.args.self.now c.args.left c.args.right c.requires.facing in
     let t : c.order-turn.result ≤ 1 = omega (arith, c.order-turn.ensures, turn_small c.args.left c.args.right) in
-    let e = c.byte-b.ensures in
     record {
-      whole = c.clear-top.ensures.whole;
       first = omega arith;
       second = omega arith;
       apart = λ z. omega arith;
-      ports = omega (arith, c.args.self.now.ports c.args.right);
+      ports = few c.index-b.result.now (q_few c.args.self.now c.args.left c.args.right c.requires.facing c.index-b.result.now c.index-b.ensures);
     }
 
 -- the places of the new cells
-seats : (c : After-take_places-places) → Places (seat c.take_places-places.result) c.args.rule.now.cells
+seats : (c : After-take_places-places) → Places (seat c.take_places-places.result) (length c.args.rule.now.cells.now)
 seats c =
-    places c.args.left c.args.right c.args.rule.now.cells c.args.self.now.occupied c.take_places-places.result c.take_places-places.new.map c.take_places-places.ensures
+    places c.args.left c.args.right (length c.args.rule.now.cells.now) c.args.self.now.occupied c.take_places-places.result c.take_places-places.new.map c.take_places-places.ensures
     c.requires.fitting.few c.requires.facing.1
     (p_low c.args.self.now c.args.left c.args.right c.requires.facing) (q_low c.args.self.now c.args.left c.args.right c.requires.facing)
     (p_on c.args.self.now c.args.left c.args.right c.requires.facing) (q_on c.args.self.now c.args.left c.args.right c.requires.facing)
 
 pub lay-requires : goal.lay-requires
-lay-requires c = record {
-  whole = c.clear-low.ensures.whole;
-  room = room_of (ports_at c.args.self.now c.args.left) (ports_at c.args.self.now c.args.right) c.args.rule.now c.requires.fitting
-      (c.args.self.now.ports c.args.left) (c.args.self.now.ports c.args.right) c.take_places-places.result (seats (goal.at.lay-requires c).After-take_places-places);
-}
+lay-requires c =
+    room_of (ports_at c.args.self.now c.args.left) (ports_at c.args.self.now c.args.right) c.args.rule.now c.requires.fitting
+    (c.args.self.now.ports c.args.left) (c.args.self.now.ports c.args.right) c.take_places-places.result (seats (goal.at.lay-requires c).After-take_places-places)
 
 pub fill-requires : goal.fill-requires
 fill-requires c = record {
-  long = c.args.self.now.kinds.ok.0 ∙ c.args.self.now.every;
+  long = (c.args.self.now.kinds.ok.0 ∙ c.args.self.now.every, c.args.self.now.arities.ok.0 ∙ c.args.self.now.all);
   few = c.requires.fitting.few;
   places = seats (goal.at.fill-requires c).After-take_places-places;
 }
 
-pub fill-requires-2 : goal.fill-requires-2
-fill-requires-2 c = record {
-  long = c.args.self.now.arities.ok.0 ∙ c.args.self.now.all;
-  few = c.requires.fitting.few;
-  places = seats (goal.at.fill-requires-2 c).After-take_places-places;
-}
-
 -- what the table holds in the end
-abbrev after : After-fill-2 → Content
+abbrev after : After-fill → Content
 after c = record {
-  links = vec_items c.splice_rows-second.new.links;
-  kinds = vec_items c.fill.new.items;
-  arities = vec_items c.fill-2.new.items;
+  links = vec_items c.splice_rows-second.new.self.targets;
+  kinds = vec_items c.fill.new.kinds;
+  arities = vec_items c.fill.new.arities;
   occupied = c.take_places-places.new.map;
   ends = c.args.self.now.ends;
   loops = c.args.self.now.loops + c.splice_rows-first.result + c.splice_rows-second.result;
 }
 
-did : (c : After-fill-2) → Did c.args.self.now c.args.left c.args.right c.args.rule.now (after c)
+did : (c : After-fill) → Did c.args.self.now c.args.left c.args.right c.args.rule.now (after c)
 did c = record {
   ps = c.take_places-places.result;
   seated = c.take_places-places.ensures;
   relinked = relinked_of c.args.self.now c.args.left c.args.right c.args.rule.now c.take_places-places.result
-      (vec_items c.clear-top.new.links) (vec_items c.clear-low.new.links) (vec_items c.lay.new.links) (vec_items c.splice_rows-first.new.links) (vec_items c.splice_rows-second.new.links)
-      c.order-turn.result c.byte-a.result c.byte-b.result c.clear-top.result c.clear-low.result c.splice_rows-first.result c.splice_rows-second.result
+      (vec_items c.clear-top.new.self.targets) (vec_items c.clear-low.new.self.targets) (vec_items c.lay.new.links.targets) (vec_items c.splice_rows-first.new.self.targets) (vec_items c.splice_rows-second.new.self.targets)
+      c.order-turn.result c.index-a.result.now c.index-b.result.now c.clear-top.result c.clear-low.result c.splice_rows-first.result c.splice_rows-second.result
       (c.args.self.now.loops + c.splice_rows-first.result + c.splice_rows-second.result)
-      c.order-turn.ensures c.byte-a.ensures c.byte-b.ensures c.clear-top.ensures c.clear-low.ensures c.lay.ensures c.splice_rows-first.ensures c.splice_rows-second.ensures refl;
-  kinds = c.fill.ensures;
-  arities = c.fill-2.ensures;
+      c.order-turn.ensures
+      (p_arity c.args.self.now c.args.left c.args.right c.requires.facing c.index-a.result.now c.index-a.ensures) (q_arity c.args.self.now c.args.left c.args.right c.requires.facing c.index-b.result.now c.index-b.ensures)
+      c.clear-top.ensures c.clear-low.ensures c.lay.ensures c.splice_rows-first.ensures c.splice_rows-second.ensures refl;
+  kinds = c.fill.ensures.kinds;
+  arities = c.fill.ensures.arities;
   ends = refl;
 }
 
@@ -120,12 +104,9 @@ invariant_of-self c =
     let r = c.args.rule.now in
     let Y = c.requires in
     let W = did c in
-    let H = whole_links s p q r Y (after c) W in
     record {
-      long = H.long;
-      inside = H.inside;
-      every = c.fill.ensures.long ∙ s.every;
-      all = c.fill-2.ensures.long ∙ s.all;
+      every = c.fill.ensures.kinds.long ∙ s.every;
+      all = c.fill.ensures.arities.long ∙ s.all;
       ports = few_ports s p q r Y (after c) W;
       wide = map_long s p q r Y (after c) W;
       few = s.few;
@@ -138,7 +119,7 @@ invariant_of-self c =
 pub returns : goal.returns
 unfolding did
 returns c =
-    let e = (goal.at.returns c).After-fill-2 in
+    let e = (goal.at.returns c).After-fill in
     let s = c.args.self.now in
     let p = c.args.left in
     let q = c.args.right in
@@ -152,3 +133,9 @@ returns c =
       },
       downwards s p q r Y (after e) (did e),
     )
+
+pub splice_rows-first-requires-clause-ports : goal.splice_rows-first-requires-clause-ports
+splice_rows-first-requires-clause-ports c = few c.index-a.result.now (p_few c.args.self.now c.args.left c.args.right c.requires.facing c.index-a.result.now c.index-a.ensures)
+
+pub splice_rows-second-requires-clause-ports : goal.splice_rows-second-requires-clause-ports
+splice_rows-second-requires-clause-ports c = few c.index-b.result.now (q_few c.args.self.now c.args.left c.args.right c.requires.facing c.index-b.result.now c.index-b.ensures)

@@ -1,21 +1,15 @@
-use Rattle.std.proofs.Common.{refl}
-use Rattle.nets.proofs.Suiting.{active_suits, limited, allowed_replaceable, rewrote_somewhere}
+use Rattle.std.proofs.lemmas.Result.{err_from_is_err_and}
+use Rattle.nets.proofs.Suiting.{limited, active_suits, rewrote_somewhere}
 use Rattle.nets.proofs.table.Table.rewrite.Goals as goal
 
-pub replace-requires : goal.replace-requires
-replace-requires c = allowed_replaceable c.args.self.now c.args.left c.args.right c.args.rule.now c.in-None.ensures
+pub returns-in_err-check-clause-rewrites : goal.returns-in_err-check-clause-rewrites
+returns-in_err-check-clause-rewrites c =
+    let p = err_from_is_err_and c.from_residual.result c.from_residual.ensures.1 in
+    λ K i w laws ofb dep act.
+    rw (p.1, p.2)
+    (limited c.args.self.now c.args.left c.args.right c.args.rule.now c.in_err-check.field-0.0 c.in_err-check.ensures
+    (active_suits K c.args.rule.now w dep laws c.args.self.now c.args.left c.args.right i ofb act))
 
-pub returns-in-Some : goal.returns-in-Some
-returns-in-Some c = record {
-  due = (c.in-Some.ensures, refl);
-  rewrites = λ K i w laws ofb dep act.
-      limited c.args.self.now c.args.left c.args.right c.args.rule.now c.in-Some.fault c.in-Some.ensures
-      (active_suits K c.args.rule.now w dep laws c.args.self.now c.args.left c.args.right i ofb act);
-}
-
-pub returns-in-None : goal.returns-in-None
-returns-in-None c = record {
-  due = c.in-None.ensures;
-  rewrites = λ K i w laws ofb dep act.
-      rewrote_somewhere K c.args.self.now c.replace.new.self c.args.left c.args.right i w c.replace.result (c.replace.ensures K i w laws ofb dep act).0;
-}
+pub returns-clause-rewrites : goal.returns-clause-rewrites
+returns-clause-rewrites c = λ K i w laws ofb dep act.
+    rewrote_somewhere K c.args.self.now c.replace.new.self c.args.left c.args.right i w c.replace.result (c.replace.ensures K i w laws ofb dep act).0

@@ -1,0 +1,11 @@
+use Rattle.std.proofs.Common.{ℕ, ◌+◌, ◌≤◌, List, vec_items}
+use Rattle.nets.specs.declared.link.Link.{Link}
+use Rattle.nets.specs.Rewiring.{Strung}
+use Rattle.nets.proofs.links.Links.splice_rows.Given as goal
+
+abbrev pub invariant-loop-port : goal.invariant-loop-port
+invariant-loop-port l = record {
+  few : l.loops + l.port ≤ l.n;
+  rest : (us : List Link) (k : ℕ) → Strung (vec_items l.self.targets) l.p l.g l.port us k →
+      Strung (vec_items l.initial.self.targets) l.p l.g l.n us (l.loops + k);
+}
