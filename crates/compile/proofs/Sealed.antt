@@ -1,5 +1,5 @@
 -- The table of a draft in which all links of a linear term are named.
-use Rattle.std.proofs.Common.{◌≡◌, ℕ, ◌<◌, ◌≤◌, true, false, ltb, leb, ◌≢◌, ◌⊎◌, List, [], ◌∷◌, length, Some, None, sym, ap, ◌∙◌, subst, inl, inr, arith}
+use Rattle.std.proofs.Common.{◌≡◌, ℕ, ◌<◌, ◌≤◌, true, false, ltb, leb, ◌≢◌, ◌⊎◌, List, [], ◌∷◌, length, Some, None, Ok, Err, Result, IsOk, sym, refl, ap, ◌∙◌, subst, inl, inr, arith}
 use mathlib.Core.Path.{fun_ext}
 use Rattle.std.specs.List.{AllByRecursion}
 use Rattle.std.proofs.lemmas.Bool.{lt-ltb, le-ltb, ltb-true, leb-true, and_parts, cond-true, cond-false, cases_lt, cases_Bool, both_ways}
@@ -14,7 +14,9 @@ use Rattle.lambda.proofs.Wirings.{In, occ, out_occ, Distinct, find, linked_in, l
 use Rattle.lambda.proofs.Good.{kind_yes, kind_none, mate_is, ends_are, no_loops, port_named, end_live, distinct_links}
 use Rattle.nets.specs.declared.table.Table.{Table}
 use Rattle.nets.specs.Meaning.{net, OfBook}
-use Rattle.nets.specs.Drafts.{Plan, planned, Faulty, Realised}
+use Rattle.nets.specs.Drafts.{Plan, planned, Faulty, Realised, Sealing}
+use Rattle.nets.specs.Views.{at}
+use Rattle.nets.specs.declared.spot.Spot.{Spot as Seen}
 use Rattle.terms.specs.Named.{Named, cells, items}
 use Rattle.terms.specs.Bindings.{term_under, net_under}
 use Rattle.terms.specs.Texts.{Reads}
@@ -27,7 +29,7 @@ all_in P [] a u v h = absurd h
 all_in P (l ∷ ls) a u v (inl (e, f)) = subst (λ x. P (x, v)) (sym e) (subst (λ y. P (l.0, y)) (sym f) a.0)
 all_in P (l ∷ ls) a u v (inr h) = all_in P ls a.1 u v h
 
-module _ (text : List ℕ) (T : Named) (reads : Reads text T) (p : Plan) (d : Drafted (length (items T)) (cells T) (links (end 0) (term_under (items T) T)) p) where
+module _ {text : List ℕ} {T : Named} (reads : Reads text T) {p : Plan} (d : Drafted (length (items T)) (cells T) (links (end 0) (term_under (items T) T)) p) where
   abbrev n : ℕ
   n = length (items T)
 
@@ -35,16 +37,16 @@ module _ (text : List ℕ) (T : Named) (reads : Reads text T) (p : Plan) (d : Dr
   U = term_under (items T) T
 
   apart : Distinct (links (end 0) U)
-  apart = distinct_links n U (linear text T reads)
+  apart = distinct_links n U (linear reads)
 
   -- a spot that is there has a link, and a spot that has one is there
   counted : (x : Spot) → planned p x ≡ true → 1 ≤ occ x (links (end 0) U)
-  counted (end e) h = let l = end_live n U (linear text T reads) e (omega (arith, ltb-true e p.ends h, d.ends)) in omega arith
+  counted (end e) h = let l = end_live n U (linear reads) e (omega (arith, ltb-true e p.ends h, d.ends)) in omega arith
   counted (port r j) h =
       let (a, b) = and_parts (ltb r p.cells) (leb j (p.arity r)) h in
       let less : r < cells T = omega (arith, ltb-true r p.cells a, d.cells) in
       let low : j ≤ 2 = omega (arith, leb-true j (p.arity r) b, d.arities r less) in
-      let l = port_named n U (linear text T reads) r j low in
+      let l = port_named n U (linear reads) r j low in
       let i = placed_inside (items T) T 0 [] r (omega arith) (omega arith) in
       omega arith
 
@@ -80,7 +82,7 @@ module _ (text : List ℕ) (T : Named) (reads : Reads text T) (p : Plan) (d : Dr
       go (inr o) = linked_out (links (end 0) U) x o
 
   -- no link is at fault
-  pub no_fault : (x : Spot) → Faulty p x → ⊥
+  no_fault : (x : Spot) → Faulty p x → ⊥
   no_fault x (there, why) =
       let j = joined x there in
       elim why [
@@ -89,7 +91,11 @@ module _ (text : List ℕ) (T : Named) (reads : Reads text T) (p : Plan) (d : Dr
         | inr (inr other) ↦ other (ap p.link j.here ∙ j.back)
       ]
 
-  module _ (t : Table) (done : Realised p t) where
+  pub sealed : (r : Result Table Seen) → Sealing p r → IsOk r
+  sealed (Ok t) h = refl
+  sealed (Err x) h = absurd (no_fault (at x) h.0)
+
+  module _ {t : Table} (done : Realised p t) where
     kind_there : (r : ℕ) → r < cells T → (net t).kind r ≡ Some γ
     kind_there r less = done.kinds r ∙ cond-true _ _ _ (lt-ltb r p.cells (omega (arith, d.cells))) ∙ ap Some (d.kinds r less)
 

@@ -1,4 +1,3 @@
-pub mod Refusals
 pub mod Compiling
 pub mod Linking
 pub mod Building

@@ -1,27 +1,29 @@
 // A net in the making, on a walk over the text of its term.
-ghost use Rattle.std.specs.Prelude.{◌≡◌, length};
-
+use arrayvec::ArrayVec;
 use nets::draft::Draft;
 use nets::spot::Spot;
 use terms::items::Items;
 
-/// The net of the front of a text: its draft, how many cells there are, the items so far, and the spot where the next term goes.
-/// The places of the names of the abstractions around and their cells, the outermost first, and how many there are;
-/// for each open application how many are around it, and its cell.
+/// An open application: how many abstractions are around it, and its cell.
+#[derive(Clone, Copy, Debug, Default, PartialEq, Eq)]
+pub struct Open {
+    pub(crate) around: u16,
+    pub(crate) cell: u16,
+}
+
+/// The net of the front of a text: its draft, the items so far, and the spot where the next term goes.
+/// The places of the names of the abstractions around, and their cells; the open applications; the outermost first.
 #[derive(Drop)]
-pub struct Builder {
+pub struct Builder<'t> {
+    pub(crate) text: &'t [u8],
+    pub(crate) at: usize,
     pub(crate) draft: Draft,
+    // How many cells there are: the draft does not tell.
     pub(crate) cells: u16,
     pub(crate) items: Items,
     pub(crate) spot: Spot,
-    pub(crate) around: [u16; 1024],
-    pub(crate) binders: [u16; 1024],
-    pub(crate) inner: u16,
-    pub(crate) saved: [u16; 1024],
-    pub(crate) opened: [u16; 1024],
-    pub(crate) depth: u16,
-    ghost wide: { length around ≡ 1024 },
-    ghost all: { length binders ≡ 1024 },
-    ghost deep: { length saved ≡ 1024 },
-    ghost long: { length opened ≡ 1024 },
+    // Places and cells in a list each: `find_scope` looks for a name in a slice of places, and pairs would need a look-up of their own.
+    pub(crate) around: ArrayVec<u16, 1024>,
+    pub(crate) binders: ArrayVec<u16, 1024>,
+    pub(crate) opened: ArrayVec<Open, 1024>,
 }

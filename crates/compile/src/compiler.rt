@@ -9,6 +9,7 @@ use nets::table::Table;
 use std::alloc::Global;
 use terms::items::Items;
 use terms::survey::survey_text;
+use terms::text_walk::TextWalk;
 
 /// The net of a text, and its items in text order: the net's end k is item k.
 #[derive(Drop)]
@@ -25,11 +26,9 @@ pub fn compile(heap: Global, text: &[u8]) -> Result<Compiled, CompileFault>
 {
     let size = survey_text(text)?;
     let draft = Draft::new(heap, size.items as u8 + 1, 0)?;
-    let mut builder = Builder::new(draft, Items::new(heap)?);
-    builder.walk(text);
+    let mut builder = Builder::new(text, draft, Items::new(heap)?);
+    builder.walk();
     let Builder { draft, items, .. } = builder;
-    match draft.seal() {
-        Ok(table) => Ok(Compiled { table, items }),
-        Err(_) => unreachable(),
-    }
+    let table = draft.seal().unwrap();
+    Ok(Compiled { table, items })
 }

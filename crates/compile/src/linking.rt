@@ -4,6 +4,7 @@ ghost use Rattle.nets.specs.Drafts.{plan, planned};
 ghost use Rattle.nets.specs.Views.{at};
 ghost use Rattle.compile.specs.Linking.{Linked, Placed};
 
+use books::combinators::GAMMA;
 use nets::draft::Draft;
 use nets::spot::Spot;
 
@@ -23,6 +24,6 @@ pub(crate) fn place_cell(draft: &mut Draft, spot: Spot, cell: u16, port: u8)
     requires there { (planned (plan draft.old) (at spot) ≡ true) × (port ≤ 2) }
     ensures { Placed (plan draft.old) (at spot) cell port (plan draft.new) }
 {
-    draft.add_cell(0, 2);
+    draft.add_cell(GAMMA, 2);
     link(draft, spot, Spot::Port(cell, port));
 }

@@ -1,6 +1,5 @@
 pub mod Words
 pub mod Listings
-pub mod Lookups
 pub mod Scoping
 pub mod Wrongs
 pub mod Tallies

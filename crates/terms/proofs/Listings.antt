@@ -1,8 +1,10 @@
 -- Which items a list has, and that one more keeps it without repeats.
-use Rattle.std.proofs.Common.{◌≡◌, ℕ, ◌<◌, List, [], ◌∷◌, ◌++◌, map, length, get_or, sym, ap, ◌∙◌, subst, inl, inr, arith}
-use Rattle.std.specs.List.{ContainsAt as Has}
+use Rattle.std.proofs.Common.{◌≡◌, ℕ, ◌<◌, Bool, true, false, Decides, refl, List, [], ◌∷◌, ◌++◌, map, length, get_or, sym, ◌∙◌, subst, inl, inr, arith}
+use Rattle.std.specs.List.{ContainsAt as Has, IsAnyAnswer}
+use Rattle.std.specs.Str.{bytes_eq}
 use Rattle.std.proofs.lemmas.List.{length-map, get_or-map, map_push, length-append, get_or_append_left, get_or_push, get_or_default}
-use Rattle.std.proofs.lemmas.Bool.{cases_eq}
+use Rattle.std.proofs.lemmas.Slice.Eq.{bytes_eq-Decides}
+use Rattle.std.proofs.lemmas.Bool.{cases_eq, both_ways}
 use Rattle.terms.specs.declared.item.Item.{Item}
 use Rattle.terms.specs.Spelling.{spelled, Apart}
 
@@ -10,12 +12,18 @@ use Rattle.terms.specs.Spelling.{spelled, Apart}
 pub has_at : (is : List (List ℕ)) (w : List ℕ) (k : ℕ) → k < length is → get_or is k [] ≡ w → Has is w
 has_at is w k h e = (k, h, λ d. get_or_default is k d [] h ∙ e)
 
-pub has_none : (is : List (List ℕ)) (w : List ℕ) → ((k : ℕ) → k < length is → get_or is k [] ≡ w → ⊥) → Has is w → ⊥
-has_none is w none has = none has.0 has.1 (has.2 [])
-
--- what an item that was read from a list is spelled like
-pub item_at : (xs : List Item) (i : ℕ) (x : Item) → i < length xs → x ≡ get_or xs i x → get_or (map spelled xs) i [] ≡ spelled x
-item_at xs i x l e = get_or-map spelled xs i x [] l ∙ ap spelled (sym e)
+-- whether an item is listed, by a look at each
+pub has_decides : (xs : List Item) (x : Item) (r : Bool) → IsAnyAnswer (λ y b. bytes_eq (spelled y) (spelled x) ≡ b) xs r → Decides r (Has (map spelled xs) (spelled x))
+has_decides xs x true h =
+    let n = length-map xs spelled in
+    ((λ _. has_at (map spelled xs) (spelled x) h.0 (omega (arith, h.1)) (get_or-map spelled xs h.0 x [] h.1 ∙ (bytes_eq-Decides _ _).0 (h.2 x))), λ _. refl)
+has_decides xs x false h =
+    let n = length-map xs spelled in (
+      (λ e. absurd (both_ways false refl e)),
+      λ i.
+          let l : i.0 < length xs = omega (arith, i.1) in
+          absurd (both_ways _ (h i.0 x (omega arith) l) ((bytes_eq-Decides _ _).1 (sym (get_or-map spelled xs i.0 x [] l) ∙ i.2 []))),
+    )
 
 -- the items of a list with one more are apart, if that one is not listed
 pub apart_more : (xs : List Item) (x : Item) → Apart xs → (Has (map spelled xs) (spelled x) → ⊥) → Apart (xs ++ x ∷ [])

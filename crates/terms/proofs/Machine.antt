@@ -2,9 +2,11 @@
 use Rattle.std.proofs.Common.{◌≡◌, ℕ, suc, ◌+◌, ◌<◌, ◌≤◌, true, false, eqb, ltb, leb, List, [], ◌∷◌, ◌++◌, length, get_or, Some, sym, refl, ap, ◌∙◌, subst, append_assoc, arith}
 use Rattle.std.proofs.lemmas.List.{length-append, append-nil}
 use Rattle.std.proofs.lemmas.Bool.{cond-true, cond-false, lt-ltb, and_parts, and_left, leb-true, lt-leb, ne_eqb}
+use Rattle.terms.specs.declared.scanner.Kind.{Kind}
 use Rattle.terms.specs.Letters.{letter, small, capital, Word}
 use Rattle.terms.specs.Named.{Named, bound, item, lam, app, written, Spelt}
-use Rattle.terms.specs.Scanning.{Frame, function, argument, body, State, want, binder, name, thing, done, stuck, spaced, closed, ended, step, run, whole}
+use Rattle.terms.specs.Scanning.{Frame, function, argument, body, State, want, binder, name, thing, done, stuck, spaced, closed, ended, step, run, whole, first_letter, spelling}
+use Rattle.terms.proofs.Steps.{letter_step}
 
 pub run-append : (s : State) (xs ys : List ℕ) → run s (xs ++ ys) ≡ run (run s xs) ys
 run-append s [] ys = refl
@@ -23,26 +25,11 @@ letters_of : (first : ℕ) (w : List ℕ) → ((k : ℕ) → k < length w → le
 letters_of first [] h = tt
 letters_of first (b ∷ w) h = (h 0 (omega arith), letters_of first w (λ k l. h (suc k) (omega arith)))
 
-binder_more : (v w : List ℕ) (ks : List Frame) → length v + length w ≤ 8 → Letters small w → run (binder v ks) w ≡ binder (v ++ w) ks
-binder_more v [] ks l h = ap (λ u. binder u ks) (sym (append-nil v))
-binder_more v (b ∷ w) ks l h =
-    let e : step (binder v ks) b ≡ binder (v ++ b ∷ []) ks = cond-true _ _ _ h.0 ∙ cond-true _ _ _ (lt-ltb (length v) 8 (omega arith)) in
+word_more : (k : Kind) (v w : List ℕ) (ks : List Frame) → length v + length w ≤ 8 → Letters (first_letter k) w → run (spelling k v ks) w ≡ spelling k (v ++ w) ks
+word_more k v [] ks l h = ap (λ u. spelling k u ks) (sym (append-nil v))
+word_more k v (b ∷ w) ks l h =
     let n = length-append v (b ∷ []) in
-    ap (λ s. run s w) e ∙ binder_more (v ++ b ∷ []) w ks (omega arith) h.1 ∙ ap (λ u. binder u ks) (append_assoc v (b ∷ []) w)
-
-name_more : (v w : List ℕ) (ks : List Frame) → length v + length w ≤ 8 → Letters small w → run (name v ks) w ≡ name (v ++ w) ks
-name_more v [] ks l h = ap (λ u. name u ks) (sym (append-nil v))
-name_more v (b ∷ w) ks l h =
-    let e : step (name v ks) b ≡ name (v ++ b ∷ []) ks = cond-true _ _ _ h.0 ∙ cond-true _ _ _ (lt-ltb (length v) 8 (omega arith)) in
-    let n = length-append v (b ∷ []) in
-    ap (λ s. run s w) e ∙ name_more (v ++ b ∷ []) w ks (omega arith) h.1 ∙ ap (λ u. name u ks) (append_assoc v (b ∷ []) w)
-
-thing_more : (v w : List ℕ) (ks : List Frame) → length v + length w ≤ 8 → Letters capital w → run (thing v ks) w ≡ thing (v ++ w) ks
-thing_more v [] ks l h = ap (λ u. thing u ks) (sym (append-nil v))
-thing_more v (b ∷ w) ks l h =
-    let e : step (thing v ks) b ≡ thing (v ++ b ∷ []) ks = cond-true _ _ _ h.0 ∙ cond-true _ _ _ (lt-ltb (length v) 8 (omega arith)) in
-    let n = length-append v (b ∷ []) in
-    ap (λ s. run s w) e ∙ thing_more (v ++ b ∷ []) w ks (omega arith) h.1 ∙ ap (λ u. thing u ks) (append_assoc v (b ∷ []) w)
+    ap (λ s. run s w) (letter_step k v ks b h.0 (omega arith)) ∙ word_more k (v ++ b ∷ []) w ks (omega arith) h.1 ∙ ap (λ u. spelling k u ks) (append_assoc v (b ∷ []) w)
 
 -- a small letter is no other sign
 small_sign : (b : ℕ) → letter small b ≡ true → (eqb b 92 ≡ false) × (eqb b 40 ≡ false)
@@ -64,7 +51,7 @@ want_name (b ∷ w) h ks =
     let ls = letters_of small (b ∷ w) h.letters in
     let no = small_sign b ls.0 in
     let e : step (want ks) b ≡ name (b ∷ []) ks = cond-false _ _ _ no.0 ∙ cond-false _ _ _ no.1 ∙ cond-true _ _ _ ls.0 in
-    ap (λ s. run s w) e ∙ name_more (b ∷ []) w ks (omega (arith, h.few)) ls.1
+    ap (λ s. run s w) e ∙ word_more Kind.Name (b ∷ []) w ks (omega (arith, h.few)) ls.1
 
 want_thing : (w : List ℕ) → Word capital w → (ks : List Frame) → run (want ks) w ≡ thing w ks
 want_thing [] h ks = absurd (omega (arith, h.some))
@@ -72,12 +59,12 @@ want_thing (b ∷ w) h ks =
     let ls = letters_of capital (b ∷ w) h.letters in
     let no = capital_sign b ls.0 in
     let e : step (want ks) b ≡ thing (b ∷ []) ks = cond-false _ _ _ no.0 ∙ cond-false _ _ _ no.1 ∙ cond-false _ _ _ no.2 ∙ cond-true _ _ _ ls.0 in
-    ap (λ s. run s w) e ∙ thing_more (b ∷ []) w ks (omega (arith, h.few)) ls.1
+    ap (λ s. run s w) e ∙ word_more Kind.Item (b ∷ []) w ks (omega (arith, h.few)) ls.1
 
 want_body : (w : List ℕ) → Word small w → (ks : List Frame) (r : List ℕ) → run (want ks) (92 ∷ (w ++ 46 ∷ r)) ≡ run (want (body w ∷ ks)) r
 want_body w h ks r =
     let ls = letters_of small w h.letters in
-    let e : run (binder [] ks) w ≡ binder w ks = binder_more [] w ks (omega (arith, h.few)) ls in
+    let e : run (binder [] ks) w ≡ binder w ks = word_more Kind.Binder [] w ks (omega (arith, h.few)) ls in
     let d : step (binder w ks) 46 ≡ want (body w ∷ ks) = cond-true (ltb 0 (length w)) _ _ (lt-ltb 0 (length w) (omega (arith, h.some))) in
     run-append (binder [] ks) w (46 ∷ r) ∙ ap (λ s. run (step s 46) r) e ∙ ap (λ s. run s r) d
 

@@ -1,26 +1,22 @@
 -- What a walk that has come to the end tells of a text.
 use Rattle.std.proofs.Common.{◌≡◌, ℕ, ◌+◌, ◌<◌, ◌≤◌, true, false, ◌⊎◌, List, [], ◌∷◌, ◌++◌, length, get_or, Some, None, Decides, sym, refl, ap, ◌∙◌, subst, inl, inr, arith}
 use Rattle.std.specs.List.{ContainsAt as Has}
-use Rattle.std.specs.Str.{bytes_eq}
 use Rattle.std.proofs.lemmas.List.{append-nil, length-append}
-use Rattle.std.proofs.lemmas.Bool.{both_ways, cond_both}
+use Rattle.std.proofs.lemmas.Bool.{both_ways}
 use Rattle.refusals.specs.declared.faults.TextFault.{TextFault}
 use Rattle.terms.specs.Named.{Named, bound, item, lam, app, written, Spelt, cells, items}
-use Rattle.terms.specs.Bindings.{variable, Around, meaning, uses, binders, IsUnused, LinearNamed}
+use Rattle.terms.specs.Bindings.{Around, uses, binders, IsUnused, LinearNamed}
 use Rattle.terms.specs.Texts.{IsMisused, Reads, Due}
-use Rattle.terms.specs.Tallying.{Uses, FaultOf, WrongAs, things, one_thing, Sums}
+use Rattle.terms.specs.Tallying.{Uses, FaultOf, WrongAs, things, Sums}
 use Rattle.terms.specs.Unused.{UnusedFound}
-use Rattle.terms.specs.Walking.{Walked}
+use Rattle.terms.specs.Walking.{between, Walk}
 use Rattle.terms.specs.declared.walker.Walker.{Walker}
 use Rattle.terms.proofs.Single.{has_append, has_one}
+use Rattle.terms.proofs.Wrongs.{name_no_thing}
 
 things-append : (us vs : Uses) → things (us ++ vs) ≡ things us + things vs
 things-append [] vs = omega arith
 things-append (u ∷ us) vs = let e = things-append us vs in omega arith
-
-name_no_thing : (w : List ℕ) (es : Around) → one_thing (meaning w es) ≡ 0
-name_no_thing w [] = refl
-name_no_thing w (e ∷ es) = cond_both (bytes_eq w e.0) (variable e.1) (meaning w es) (λ m. one_thing m ≡ 0) (λ _. refl) (λ _. name_no_thing w es)
 
 things_uses : (t : Named) (es : Around) (p : ℕ) → things (uses es p t) ≡ length (items t)
 things_uses (bound w) es p = let e = name_no_thing w es in omega arith
@@ -51,9 +47,10 @@ binder_inside (app f a) p q h =
       | inr i ↦ (let e = binder_inside a (p + (length (written f) + 2)) q i in (omega arith, omega arith))
     ]
 
-module _ (text : List ℕ) (T : Named) (spelt : Spelt T) (is : written T ≡ text) (short : length text ≤ 8192) (w : Walker) (h : Walked text T w) where
-  sums : Sums text (uses [] 0 T) w.tally.used w.tally.items w.tally.count w.tally.fault
-  sums = subst (λ (u : Uses). Sums text u w.tally.used w.tally.items w.tally.count w.tally.fault) (sym (append-nil h.us) ∙ h.all_uses) h.tallied
+module _ (text : List ℕ) (T : Named) (spelt : Spelt T) (is : written T ≡ text) (short : length text ≤ 8192) (w : Walker)
+    (h : Walk text T (length text) w.around.items w.saved.items w.binders w.cells w.tally (between [])) where
+  sums : Sums text (uses [] 0 T) w.tally.used w.tally.items.items w.tally.fault
+  sums = subst (λ (u : Uses). Sums text u w.tally.used w.tally.items.items w.tally.fault) (sym (append-nil h.us) ∙ h.all_uses) h.tallied
 
   flagged : (q : ℕ) → q < 8192 → Decides (get_or w.binders q false) (Has (binders 0 T) q)
   flagged = subst (λ (b : List ℕ). (q : ℕ) → q < 8192 → Decides (get_or w.binders q false) (Has b q)) (sym (append-nil h.bs) ∙ h.all_binders) h.flagged
@@ -61,7 +58,7 @@ module _ (text : List ℕ) (T : Named) (spelt : Spelt T) (is : written T ≡ tex
   pub cells_all : w.cells ≡ cells T
   cells_all = let e = h.all_cells in omega arith
 
-  pub items_all : w.tally.count ≡ length (items T)
+  pub items_all : length w.tally.items.items ≡ length (items T)
   items_all = sums.counted ∙ things_uses T [] 0
 
   due_as : (f : TextFault) → WrongAs (uses [] 0 T) f → Due text f
@@ -114,13 +111,13 @@ module _ (text : List ℕ) (T : Named) (spelt : Spelt T) (is : written T ≡ tex
         used_there q l (λ _ g. f q l g) u;
   }
 
-  pub due_large : LinearNamed T → (63 < w.tally.count) ⊎ (1024 < w.cells) → Due text TextFault.TooLarge
+  pub due_large : LinearNamed T → (63 < length w.tally.items.items) ⊎ (1024 < w.cells) → Due text TextFault.TooLarge
   due_large l m =
       let c = cells_all in
       let i = items_all in
       (short, (T, spelt, is, (l, elim m [ inl x ↦ inl (omega arith) | inr x ↦ inr (omega arith) ])))
 
-  pub reads_all : LinearNamed T → w.tally.count ≤ 63 → w.cells ≤ 1024 → Reads text T
+  pub reads_all : LinearNamed T → length w.tally.items.items ≤ 63 → w.cells ≤ 1024 → Reads text T
   reads_all l m n =
       let c = cells_all in
       let i = items_all in

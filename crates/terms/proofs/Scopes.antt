@@ -1,44 +1,44 @@
 -- What the places and numbers of a walk say of the abstractions around and of the open applications.
-use Rattle.std.proofs.Common.{◌≡◌, ℕ, ◌+◌, ◌-◌, ◌<◌, ◌≤◌, ◌≢◌, List, [], ◌∷◌, length, get_or, take, set, Option, sym, refl, ap, ◌∙◌, subst, inl, inr, arith, get_or-set_other, get_or-set_same}
-use Rattle.std.proofs.lemmas.List.{get_or-take, length-take-le}
+use Rattle.std.proofs.Common.{◌≡◌, ℕ, ◌-◌, ◌<◌, ◌≤◌, List, [], ◌∷◌, ◌++◌, length, get_or, take, Some, None, Option, IfSome, sym, refl, ap, ◌∙◌, subst, inl, inr, arith}
+use Rattle.std.specs.List.{SameBelow}
+use Rattle.std.proofs.lemmas.List.{get_or_at, get_or_append_left, get_or-take, length-take-le, length_push}
+use Rattle.std.specs.Option.{option_map}
 use Rattle.std.specs.Str.{bytes_eq}
 use Rattle.std.proofs.lemmas.Bool.{cases_eq, cases_Bool, cond-true, cond-false}
 use Rattle.terms.specs.Letters.{WordAt, small}
 use Rattle.terms.specs.Named.{Named, lam, app}
 use Rattle.terms.specs.Bindings.{variable, Around, meaning}
 use Rattle.terms.specs.Scopes.{Surrounding, renumbered, Found}
+use Rattle.terms.specs.Tallying.{meant}
 use Rattle.terms.specs.Walking.{Later, due, shut, outer, reading, between, Saved, Held}
 
--- a number past those in use does not matter
-pub surrounding_kept : (text xs : List ℕ) (e v : ℕ) (es : Around) (n : ℕ) → n ≤ e → Surrounding text xs n es → Surrounding text (set xs e v) n es
-surrounding_kept text xs e v [] n l h = h
-surrounding_kept text xs e v (f ∷ es) n l h =
-    let ne : n - 1 ≢ e = omega (arith, h.0) in
-    (h.0, rw get_or-set_other h.1, h.2, surrounding_kept text xs e v es (n - 1) (omega arith) h.3)
+-- ── lists that agree on what is in use ──
 
-saved_around : (text xs saved : List ℕ) (e v : ℕ) (zs : List Later) (most d : ℕ) → most ≤ e → Saved text xs saved most d zs → Saved text (set xs e v) saved most d zs
-saved_around text xs saved e v [] most d l h = h
-saved_around text xs saved e v (z ∷ zs) most d l h =
-    let b = h.1 in
-    (h.0, h.1, surrounding_kept text xs e v (outer z) _ (omega arith) h.2, saved_around text xs saved e v zs _ (d - 1) (omega arith) h.3)
+same_all : (xs : List ℕ) (n : ℕ) → SameBelow xs xs n
+same_all xs n k d l = refl
 
-saved_kept : (text xs saved : List ℕ) (e v : ℕ) (zs : List Later) (most d : ℕ) → d ≤ e → Saved text xs saved most d zs → Saved text xs (set saved e v) most d zs
-saved_kept text xs saved e v [] most d l h = h
-saved_kept text xs saved e v (z ∷ zs) most d l h =
-    let ne : d - 1 ≢ e = omega (arith, h.0) in
-    let s : get_or (set saved e v) (d - 1) 0 ≡ get_or saved (d - 1) 0 = rw get_or-set_other in
-    (h.0, rw s h.1, rw s h.2, rw s (saved_kept text xs saved e v zs _ (d - 1) (omega arith) h.3))
+same_push : (xs : List ℕ) (v : ℕ) → SameBelow xs (xs ++ v ∷ []) (length xs)
+same_push xs v k d l = get_or_append_left xs (v ∷ []) d k l
 
-saved_most : (text xs saved : List ℕ) (zs : List Later) (m n d : ℕ) → m ≤ n → Saved text xs saved m d zs → Saved text xs saved n d zs
-saved_most text xs saved [] m n d l h = h
-saved_most text xs saved (z ∷ zs) m n d l h = let b = h.1 in (h.0, omega arith, h.2, h.3)
+same_take : (xs : List ℕ) (n : ℕ) → SameBelow xs (take n xs) n
+same_take xs n k d l = get_or-take n xs k d l
+
+pub surrounding_kept : (text xs ys : List ℕ) (es : Around) (n : ℕ) → SameBelow xs ys n → Surrounding text xs n es → Surrounding text ys n es
+surrounding_kept text xs ys [] n same h = h
+surrounding_kept text xs ys (f ∷ es) n same h =
+    (h.0, same (n - 1) 0 (omega (arith, h.0)) ∙ h.1, h.2, surrounding_kept text xs ys es (n - 1) (λ k d l. same k d (omega arith)) h.3)
+
+pub saved_kept : (text xs ys ss ts : List ℕ) (zs : List Later) (most more d : ℕ) → most ≤ more → SameBelow xs ys most → SameBelow ss ts d → Saved text xs ss most d zs → Saved text ys ts more d zs
+saved_kept text xs ys ss ts [] most more d le p q h = h
+saved_kept text xs ys ss ts (z ∷ zs) most more d le p q h =
+    let low = h.1 in
+    let top : get_or ts (d - 1) 0 ≡ get_or ss (d - 1) 0 = q (d - 1) 0 (omega (arith, h.0)) in
+    let same : SameBelow xs ys (get_or ss (d - 1) 0) = λ k e l. p k e (omega arith) in
+    (h.0, omega arith, rw top (surrounding_kept text xs ys (outer z) _ same h.2), rw top (saved_kept text xs ys ss ts zs _ _ (d - 1) (omega arith) same (λ k e l. q k e (omega arith)) h.3))
 
 -- the abstractions around, in the front of a longer list of places
 pub surrounding_front : (text xs : List ℕ) (m : ℕ) (es : Around) (n : ℕ) → n ≤ m → Surrounding text xs n es → Surrounding text (take m xs) n es
-surrounding_front text xs m [] n l h = h
-surrounding_front text xs m (e ∷ es) n l h =
-    let i : n - 1 < m = omega (arith, h.0) in
-    (h.0, get_or-take m xs (n - 1) 0 i ∙ h.1, h.2, surrounding_front text xs m es (n - 1) (omega arith) h.3)
+surrounding_front text xs m es n l h = surrounding_kept text xs (take m xs) es n (λ k d i. get_or-take m xs k d (omega arith)) h
 
 -- what is found among the first n of the places, looked at as a slice
 pub slice_found : (text xs w : List ℕ) (es : Around) (n : ℕ) (r : Option ℕ) → n ≤ length xs → Surrounding text xs n es →
@@ -59,9 +59,6 @@ surrounding_inside text xs (e ∷ es) n h k l =
       | inr d ↦ surrounding_inside text xs es (n - 1) h.3 k (omega arith)
     ]
 
-pub surrounding_places : (text xs : List ℕ) (es : Around) (n : ℕ) → Surrounding text xs n es → (k : ℕ) → k < n → get_or xs k 0 ≤ length text
-surrounding_places text xs es n h k l = omega (arith, surrounding_inside text xs es n h k l)
-
 -- so is the place of the abstraction that a name means
 pub meant_inside : (text xs w : List ℕ) (es : Around) (n p : ℕ) → Surrounding text xs n es → meaning w es ≡ variable p → p < length text
 meant_inside text xs w [] n p h e = let z : ◌≡◌ {A = ℕ} 0 1 = cc in absurd (omega arith)
@@ -81,27 +78,57 @@ pub renumbered_same : (text xs : List ℕ) (es : Around) (n : ℕ) → Surroundi
 renumbered_same text xs [] n h = refl
 renumbered_same text xs (e ∷ es) n h = ap (λ q. (e.0, q) ∷ renumbered xs (n - 1) es) h.1 ∙ ap (λ fs. e ∷ fs) (renumbered_same text xs es (n - 1) h.3)
 
-module _ (text xs saved : List ℕ) (inner depth : ℕ) where
-  pub held_body : (es : Around) (n : List ℕ) (q : ℕ) (b : Named) (zs : List Later) → inner < length xs → WordAt text q small n →
-      Held text xs inner saved depth (reading es (lam n b) zs) → Held text (set xs inner q) (inner + 1) saved depth (reading ((n, q) ∷ es) b zs)
-  held_body es n q b zs room word h =
-      let back : inner + 1 - 1 ≡ inner = omega arith in (
-        (omega arith, rw back (rw get_or-set_same), word, subst (λ x. Surrounding text (set xs inner q) x es) (sym back) (surrounding_kept text xs inner q es inner (omega arith) h.0)),
-        saved_most text (set xs inner q) saved zs inner (inner + 1) depth (omega arith) (saved_around text xs saved inner q zs inner depth (omega arith) h.1),
+-- what a name means, by the place of the name of the abstraction that is found
+pub found_meant : (text xs w : List ℕ) (es : Around) (r : Option ℕ) → Surrounding text xs (length xs) es → Found w (length xs) es r → meaning w es ≡ meant (option_map (λ i. get_or xs i 0) r)
+found_meant text xs w es None h f = ap (meaning w) (sym (renumbered_same text xs es (length xs) h)) ∙ f xs
+found_meant text xs w es (Some i) h f = ap (meaning w) (sym (renumbered_same text xs es (length xs) h)) ∙ f.1 xs
+
+pub found_inside : (text xs w : List ℕ) (es : Around) (r : Option ℕ) (most : ℕ) → length text ≤ most → Surrounding text xs (length xs) es → Found w (length xs) es r → IfSome (option_map (λ i. get_or xs i 0) r) (λ p. p < most)
+found_inside text xs w es None most l h f = tt
+found_inside text xs w es (Some i) most l h f = let k = surrounding_inside text xs es (length xs) h i f.0 in omega arith
+
+-- ── one step ──
+
+module _ (text xs saved : List ℕ) where
+  pub held_body : (es : Around) (n : List ℕ) (q : ℕ) (b : Named) (zs : List Later) → WordAt text q small n →
+      Held text xs (length xs) saved (length saved) (reading es (lam n b) zs) → Held text (xs ++ q ∷ []) (length (xs ++ q ∷ [])) saved (length saved) (reading ((n, q) ∷ es) b zs)
+  held_body es n q b zs word h =
+      let long = length_push xs q in
+      let back : length (xs ++ q ∷ []) - 1 ≡ length xs = omega arith in (
+        (omega arith, get_or_at xs q [] 0 _ (sym back), word, subst (λ m. Surrounding text (xs ++ q ∷ []) m es) (sym back) (surrounding_kept text xs _ es (length xs) (same_push xs q) h.0)),
+        saved_kept text xs _ saved saved zs (length xs) _ (length saved) (omega arith) (same_push xs q) (same_all _ _) h.1,
       )
 
-  pub held_function : (es : Around) (f a : Named) (zs : List Later) → depth < length saved →
-      Held text xs inner saved depth (reading es (app f a) zs) → Held text xs inner (set saved depth inner) (depth + 1) (reading es f (due es a ∷ zs))
-  held_function es f a zs room h =
-      let back : depth + 1 - 1 ≡ depth = omega arith in
-      let top : get_or (set saved depth inner) (depth + 1 - 1) 0 ≡ inner = rw back (rw get_or-set_same) in (
+  pub held_function : (es : Around) (f a : Named) (zs : List Later) →
+      Held text xs (length xs) saved (length saved) (reading es (app f a) zs) → Held text xs (length xs) (saved ++ length xs ∷ []) (length (saved ++ length xs ∷ [])) (reading es f (due es a ∷ zs))
+  held_function es f a zs h =
+      let long = length_push saved (length xs) in
+      let back : length (saved ++ length xs ∷ []) - 1 ≡ length saved = omega arith in
+      let top : get_or (saved ++ length xs ∷ []) (length (saved ++ length xs ∷ []) - 1) 0 ≡ length xs = get_or_at saved (length xs) [] 0 _ (sym back) in (
         h.0,
-        (omega arith, rw top (omega arith), rw top h.0, rw top (subst (λ x. Saved text xs (set saved depth inner) inner x zs) (sym back) (saved_kept text xs saved depth inner zs inner depth (omega arith) h.1))),
+        (
+          omega arith,
+          omega arith,
+          subst (λ m. Surrounding text xs m es) (sym top) h.0,
+          subst (λ d. Saved text xs (saved ++ length xs ∷ []) (get_or (saved ++ length xs ∷ []) (length (saved ++ length xs ∷ []) - 1) 0) d zs) (sym back)
+              (saved_kept text xs xs saved _ zs (length xs) _ (length saved) (omega arith) (same_all _ _) (same_push saved (length xs)) h.1),
+        ),
       )
 
-  pub held_argument : (es : Around) (a : Named) (zs : List Later) →
-      Held text xs inner saved depth (between (due es a ∷ zs)) → Held text xs (get_or saved (depth - 1) 0) saved depth (reading es a (shut es ∷ zs))
-  held_argument es a zs h = (h.2, (h.0, omega arith, h.2, h.3))
+  pub held_argument : (es : Around) (a : Named) (zs : List Later) (m : ℕ) → m ≡ get_or saved (length saved - 1) 0 →
+      Held text xs (length xs) saved (length saved) (between (due es a ∷ zs)) → Held text (take m xs) (length (take m xs)) saved (length saved) (reading es a (shut es ∷ zs))
+  held_argument es a zs m last h =
+      let low = h.1 in
+      let long : length (take m xs) ≡ m = length-take-le m xs (omega arith) in
+      let around : Surrounding text (take m xs) m es = surrounding_kept text xs _ es m (same_take xs m) (subst (λ k. Surrounding text xs k es) (sym last) h.2) in
+      let around' : Surrounding text (take m xs) (get_or saved (length saved - 1) 0) es = subst (λ k. Surrounding text (take m xs) k es) last around in
+      let rest = saved_kept text xs (take m xs) saved saved zs _ _ (length saved - 1) (omega arith) (subst (SameBelow xs (take m xs)) last (same_take xs m)) (same_all _ _) h.3 in
+      (subst (λ k. Surrounding text (take m xs) k es) (sym long) around, (h.0, omega arith, around', rest))
 
-  pub held_close : (es : Around) (zs : List Later) → Held text xs inner saved depth (between (shut es ∷ zs)) → Held text xs inner saved (depth - 1) (between zs)
-  held_close es zs h = saved_most text xs saved zs _ inner (depth - 1) h.1 h.3
+  pub held_close : (es : Around) (zs : List Later) →
+      Held text xs (length xs) saved (length saved) (between (shut es ∷ zs)) → Held text xs (length xs) (take (length saved - 1) saved) (length (take (length saved - 1) saved)) (between zs)
+  held_close es zs h =
+      let low = h.1 in
+      let long : length (take (length saved - 1) saved) ≡ length saved - 1 = length-take-le _ saved (omega arith) in
+      subst (λ d. Saved text xs (take (length saved - 1) saved) (length xs) d zs) (sym long)
+      (saved_kept text xs xs saved _ zs _ (length xs) (length saved - 1) (omega arith) (same_all _ _) (same_take saved (length saved - 1)) h.3)

@@ -1,7 +1,7 @@
 -- The steps of a walk over the text of a term.
-use Rattle.std.proofs.Common.{◌≡◌, ℕ, ◌+◌, ◌-◌, ◌<◌, ◌≤◌, Bool, true, false, ◌≢◌, List, [], ◌∷◌, ◌++◌, length, get_or, set, Decides, sym, ap, ◌∙◌, subst, inl, inr, append_assoc, arith, get_or-set_other, get_or-set_same}
+use Rattle.std.proofs.Common.{◌≡◌, ℕ, ◌+◌, ◌-◌, ◌<◌, ◌≤◌, Bool, true, false, ◌≢◌, List, [], ◌∷◌, ◌++◌, length, get_or, set, take, Decides, sym, ap, ◌∙◌, subst, inl, inr, append_assoc, arith, get_or-set_other, get_or-set_same}
 use Rattle.std.specs.List.{ContainsAt as Has}
-use Rattle.std.proofs.lemmas.List.{length-append}
+use Rattle.std.proofs.lemmas.List.{length-append, length-take, length_push}
 use Rattle.std.proofs.ByRecursion.{has_append_left, has_push, has_push_cases}
 use Rattle.std.proofs.lemmas.Bool.{cases_eq}
 use Rattle.terms.specs.Named.{Named, bound, item, lam, app, written}
@@ -10,6 +10,7 @@ use Rattle.terms.specs.Tallying.{Uses, Before, Noted}
 use Rattle.terms.specs.Walking.{Later, due, shut, rest, later_uses, later_binders, coming_uses, reading, between, Walk}
 use Rattle.terms.specs.declared.tally.Tally.{Tally}
 use Rattle.terms.proofs.Fronts.{left, name_at, bound_at, item_at, stands_body, stands_function, stands_argument, stands_close, stands_name, stands_item}
+use Rattle.terms.proofs.Wrongs.{name_no_thing}
 use Rattle.terms.proofs.Scopes.{held_body, held_function, held_argument, held_close}
 
 before_on : (us : Uses) (p q : ℕ) → p ≤ q → Before us p → Before us q
@@ -60,17 +61,17 @@ uses_argument p es a zs =
     let after : p + 1 + length (written a) + 1 ≡ p + (length (written a) + 2) = omega arith in
     ap (λ x. uses es (p + 1) a ++ later_uses x zs) after
 
-module _ (text : List ℕ) (T : Named) (p : ℕ) (around : List ℕ) (inner : ℕ) (saved : List ℕ) (depth : ℕ) (flags : List Bool) (count : ℕ) (tally : Tally) where
-  pub walk_body : (es : Around) (n : List ℕ) (b : Named) (zs : List Later) → length text ≤ 8192 → length around ≡ 8192 → length flags ≡ 8192 →
-      Walk text T p around inner saved depth flags count tally (reading es (lam n b) zs) →
-      Walk text T (p + (length n + 2)) (set around inner (p + 1)) (inner + 1) saved depth (set flags (p + 1) true) (count + 1) tally (reading ((n, p + 1) ∷ es) b zs)
-  walk_body es n b zs short wide long w =
+module _ (text : List ℕ) (T : Named) (p : ℕ) (around saved : List ℕ) (flags : List Bool) (count : ℕ) (tally : Tally) where
+  pub walk_body : (es : Around) (n : List ℕ) (b : Named) (zs : List Later) → p + 1 < length flags →
+      Walk text T p around saved flags count tally (reading es (lam n b) zs) →
+      Walk text T (p + (length n + 2)) (around ++ (p + 1) ∷ []) saved (set flags (p + 1) true) (count + 1) tally (reading ((n, p + 1) ∷ es) b zs)
+  walk_body es n b zs room w =
       let k = left text p (reading es (lam n b) zs) w.stands in
       let a = length-append n (46 ∷ written b) in
       let c = length-append (92 ∷ (n ++ 46 ∷ written b)) (rest zs) in
       let place : p + length (written (lam n b)) ≡ p + (length n + 2) + length (written b) = omega arith in
       let lows = w.low in
-      let room : inner < length around = omega arith in
+      let long = length_push around (p + 1) in
       record {
         us = w.us;
         bs = w.bs ++ (p + 1) ∷ [];
@@ -82,15 +83,15 @@ module _ (text : List ℕ) (T : Named) (p : ℕ) (around : List ℕ) (inner : �
         all_cells = omega (arith, w.all_cells);
         before = before_on w.us p _ (omega arith) w.before;
         tallied = w.tallied;
-        flagged = flag_push flags w.bs (p + 1) (omega arith) w.flagged;
-        held = held_body text around saved inner depth es n (p + 1) b zs room (name_at text p es n b zs w.stands) w.held;
+        flagged = flag_push flags w.bs (p + 1) room w.flagged;
+        held = held_body text around saved es n (p + 1) b zs (name_at text p es n b zs w.stands) w.held;
         low = (omega arith, omega arith, omega arith, omega arith);
       }
 
-  pub walk_function : (es : Around) (f a : Named) (zs : List Later) → length text ≤ 8192 → length saved ≡ 8192 →
-      Walk text T p around inner saved depth flags count tally (reading es (app f a) zs) →
-      Walk text T (p + 1) around inner (set saved depth inner) (depth + 1) flags (count + 1) tally (reading es f (due es a ∷ zs))
-  walk_function es f a zs short deep w =
+  pub walk_function : (es : Around) (f a : Named) (zs : List Later) →
+      Walk text T p around saved flags count tally (reading es (app f a) zs) →
+      Walk text T (p + 1) around (saved ++ length around ∷ []) flags (count + 1) tally (reading es f (due es a ∷ zs))
+  walk_function es f a zs w =
       let k = left text p (reading es (app f a) zs) w.stands in
       let lows = w.low in
       let l₁ = length-append (written f) (32 ∷ (written a ++ 41 ∷ [])) in
@@ -98,7 +99,7 @@ module _ (text : List ℕ) (T : Named) (p : ℕ) (around : List ℕ) (inner : �
       let l₃ = length-append (40 ∷ (written f ++ 32 ∷ (written a ++ 41 ∷ []))) (rest zs) in
       let here : p + (length (written f) + 2) ≡ p + 1 + length (written f) + 1 = omega arith in
       let after : p + length (written (app f a)) ≡ p + 1 + length (written f) + (length (written a) + 2) = omega arith in
-      let room : depth < length saved = omega arith in
+      let long = length_push saved (length around) in
       record {
         us = w.us;
         bs = w.bs;
@@ -112,19 +113,19 @@ module _ (text : List ℕ) (T : Named) (p : ℕ) (around : List ℕ) (inner : �
         before = before_on w.us p _ (omega arith) w.before;
         tallied = w.tallied;
         flagged = w.flagged;
-        held = held_function text around saved inner depth es f a zs room w.held;
+        held = held_function text around saved es f a zs w.held;
         low = (omega arith, omega arith, omega arith, omega arith);
       }
 
-  pub walk_argument : (es : Around) (a : Named) (zs : List Later) →
-      Walk text T p around inner saved depth flags count tally (between (due es a ∷ zs)) →
-      Walk text T (p + 1) around (get_or saved (depth - 1) 0) saved depth flags count tally (reading es a (shut es ∷ zs))
-  walk_argument es a zs w =
+  pub walk_argument : (es : Around) (a : Named) (zs : List Later) (m : ℕ) → m ≡ get_or saved (length saved - 1) 0 →
+      Walk text T p around saved flags count tally (between (due es a ∷ zs)) →
+      Walk text T (p + 1) (take m around) saved flags count tally (reading es a (shut es ∷ zs))
+  walk_argument es a zs m last w =
       let k = left text p (between (due es a ∷ zs)) w.stands in
       let lows = w.low in
       let h = w.held in
       let l₁ = length-append (written a) (41 ∷ rest zs) in
-      let b = h.1 in
+      let long = length-take m around in
       let after : p + (length (written a) + 2) ≡ p + 1 + length (written a) + 1 = omega arith in
       record {
         us = w.us;
@@ -136,17 +137,18 @@ module _ (text : List ℕ) (T : Named) (p : ℕ) (around : List ℕ) (inner : �
         before = before_on w.us p _ (omega arith) w.before;
         tallied = w.tallied;
         flagged = w.flagged;
-        held = held_argument text around saved inner depth es a zs h;
+        held = held_argument text around saved es a zs m last h;
         low = (omega arith, omega arith, omega arith, omega arith);
       }
 
   pub walk_close : (es : Around) (zs : List Later) →
-      Walk text T p around inner saved depth flags count tally (between (shut es ∷ zs)) →
-      Walk text T (p + 1) around inner saved (depth - 1) flags count tally (between zs)
+      Walk text T p around saved flags count tally (between (shut es ∷ zs)) →
+      Walk text T (p + 1) around (take (length saved - 1) saved) flags count tally (between zs)
   walk_close es zs w =
       let k = left text p (between (shut es ∷ zs)) w.stands in
       let lows = w.low in
       let h = w.held in
+      let long = length-take (length saved - 1) saved in
       record {
         us = w.us;
         bs = w.bs;
@@ -157,17 +159,19 @@ module _ (text : List ℕ) (T : Named) (p : ℕ) (around : List ℕ) (inner : �
         before = before_on w.us p _ (omega arith) w.before;
         tallied = w.tallied;
         flagged = w.flagged;
-        held = held_close text around saved inner depth es zs h;
+        held = held_close text around saved es zs h;
         low = (omega arith, omega arith, omega arith, omega arith);
       }
 
-  pub walk_name : (es : Around) (n : List ℕ) (zs : List Later) (new : Tally) → Noted text (meaning n es) p tally new → new.count ≡ tally.count →
-      Walk text T p around inner saved depth flags count tally (reading es (bound n) zs) →
-      Walk text T (p + length n) around inner saved depth flags count new (between zs)
-  walk_name es n zs new noted same w =
+  pub walk_name : (es : Around) (n : List ℕ) (zs : List Later) (new : Tally) → Noted text (meaning n es) p tally new →
+      Walk text T p around saved flags count tally (reading es (bound n) zs) →
+      Walk text T (p + length n) around saved flags count new (between zs)
+  walk_name es n zs new noted w =
       let at = bound_at text p es n zs w.stands in
       let lows = w.low in
       let some = at.word.some in
+      let more = noted.counted in
+      let none = name_no_thing n es in
       record {
         us = w.us ++ (meaning n es, p) ∷ [];
         bs = w.bs;
@@ -176,19 +180,20 @@ module _ (text : List ℕ) (T : Named) (p : ℕ) (around : List ℕ) (inner : �
         all_binders = w.all_binders;
         all_cells = omega (arith, w.all_cells);
         before = before_push w.us (meaning n es) p (p + length n) (omega arith) w.before;
-        tallied = noted w.us w.tallied w.before;
+        tallied = noted.tallied w.us w.tallied w.before;
         flagged = w.flagged;
         held = w.held.1;
         low = (omega arith, omega arith, omega arith, omega arith);
       }
 
-  pub walk_item : (es : Around) (n : List ℕ) (zs : List Later) (new : Tally) → Noted text (listed n) p tally new → new.count ≡ tally.count + 1 →
-      Walk text T p around inner saved depth flags count tally (reading es (item n) zs) →
-      Walk text T (p + length n) around inner saved depth flags count new (between zs)
-  walk_item es n zs new noted more w =
+  pub walk_item : (es : Around) (n : List ℕ) (zs : List Later) (new : Tally) → Noted text (listed n) p tally new →
+      Walk text T p around saved flags count tally (reading es (item n) zs) →
+      Walk text T (p + length n) around saved flags count new (between zs)
+  walk_item es n zs new noted w =
       let at = item_at text p es n zs w.stands in
       let lows = w.low in
       let some = at.word.some in
+      let more = noted.counted in
       record {
         us = w.us ++ (listed n, p) ∷ [];
         bs = w.bs;
@@ -197,7 +202,7 @@ module _ (text : List ℕ) (T : Named) (p : ℕ) (around : List ℕ) (inner : �
         all_binders = w.all_binders;
         all_cells = omega (arith, w.all_cells);
         before = before_push w.us (listed n) p (p + length n) (omega arith) w.before;
-        tallied = noted w.us w.tallied w.before;
+        tallied = noted.tallied w.us w.tallied w.before;
         flagged = w.flagged;
         held = w.held.1;
         low = (omega arith, omega arith, omega arith, omega arith);

@@ -1,6 +1,9 @@
 -- Bytes that spell a word, and where they stop to.
-use Rattle.std.proofs.Common.{◌≡◌, ℕ, zero, suc, ◌+◌, ◌<◌, ◌≤◌, true, false, ◌⊎◌, List, [], ◌∷◌, ◌++◌, length, get_or, take, drop, sym, refl, ap, ◌∙◌, subst, inl, inr, zero-add, arith}
+use Rattle.std.proofs.Common.{◌≡◌, ℕ, zero, suc, ◌+◌, ◌-◌, ◌<◌, ◌≤◌, min, true, false, ◌⊎◌, List, [], ◌∷◌, ◌++◌, length, get_or, take, drop, sym, refl, ap, ◌∙◌, subst, inl, inr, zero-add, arith}
 use Rattle.std.proofs.lemmas.List.{length-take, length-drop, length-append, get_or-take, get_or_append_left, append-nil, take_all, get_or-drop}
+use Rattle.std.specs.List.{prefix_len}
+use Rattle.std.proofs.lemmas.List.Sums.{prefix_len-le-length, prefix_len_passes, prefix_len_stops}
+use Rattle.std.proofs.lemmas.List.Folds.{length-prefix_len}
 use Rattle.std.proofs.lemmas.Bool.{both_ways, cases_order, cases_lt, and_from, le-leb}
 use Rattle.terms.specs.Letters.{letter, Word, Outside, Run, WordAt, ReadAt}
 
@@ -110,3 +113,34 @@ run_word text p first n w r h =
           absurd (both_ways _ (r.ends (omega (arith, h.word.few)) (omega (arith, h.inside))) (subst (λ b. letter first b ≡ true) e (h.word.letters n l)))
       | inr (inr l) ↦ absurd (both_ways _ (h.ends (omega (arith, r.inside))) (r.letters (length w) l))
     ]
+
+-- the letters at the front of the eight bytes from a place on are the run there
+pub front_run : (text : List ℕ) (p first : ℕ) → p ≤ length text → Run text p first (length (take (prefix_len (letter first) (take 8 (drop p text))) (take 8 (drop p text))))
+front_run text p first inside =
+    let front : List ℕ = take 8 (drop p text) in
+    let long : length front ≡ min 8 (length text - p) = simp (length-take, length-drop) in
+    let n : ℕ = prefix_len (letter first) front in
+    let fits : n ≤ length front = prefix_len-le-length (letter first) front in
+    let same : length (take n front) ≡ n = length-prefix_len (letter first) front in
+    let at : (k : ℕ) → k < length front → get_or front k 0 ≡ get_or text (p + k) 0 = λ k l. get_or-take 8 (drop p text) k 0 (omega arith) ∙ get_or-drop p text k 0 in
+    subst (Run text p first) (sym same) (record {
+      few = omega arith;
+      inside = omega arith;
+      letters = λ k l. subst (λ b. letter first b ≡ true) (at k (omega arith)) (prefix_len_passes (letter first) front k 0 l);
+      ends = λ l i. subst (λ b. letter first b ≡ false) (at n (omega arith)) (prefix_len_stops (letter first) front 0 (omega arith));
+    })
+
+-- a word that stands at a place is what is read there
+pub word_read : (text : List ℕ) (p first : ℕ) (w : List ℕ) → WordAt text p first w → ReadAt text p first w
+word_read text p first w h = record {
+  past = λ l. absurd (omega (arith, h.inside));
+  run = λ _. record {
+    few = h.word.few;
+    inside = h.inside;
+    letters = λ k l.
+        let e : get_or w k 0 ≡ get_or text (p + k) 0 = sym (ap (λ (x : List ℕ). get_or x k 0) h.here) ∙ get_or-take (length w) (drop p text) k 0 l ∙ get_or-drop p text k 0 in
+        subst (λ b. letter first b ≡ true) e (h.word.letters k l);
+    ends = λ _ i. h.ends i;
+  };
+  here = λ _. sym h.here;
+}

@@ -1,12 +1,14 @@
 -- The first wrong use, as uses are added.
-use Rattle.std.proofs.Common.{◌≡◌, ℕ, ◌+◌, ◌<◌, ◌≤◌, ◌≢◌, ◌⊎◌, [], ◌∷◌, ◌++◌, Some, None, Option, sym, ap, subst, inl, inr, arith}
+use Rattle.std.proofs.Common.{◌≡◌, ℕ, ◌+◌, ◌<◌, ◌≤◌, ◌≢◌, ◌⊎◌, List, [], ◌∷◌, ◌++◌, Some, None, Option, refl, sym, ap, subst, inl, inr, arith}
 use Rattle.std.specs.List.{ContainsAt as Has}
+use Rattle.std.specs.Option.{option_or}
 use Rattle.std.proofs.ByRecursion.{has_push_cases, has_append_left, has_push}
-use Rattle.std.proofs.lemmas.Bool.{cases_lt}
+use Rattle.std.specs.Str.{bytes_eq}
+use Rattle.std.proofs.lemmas.Bool.{cases_lt, cond_both}
 use Rattle.refusals.specs.declared.faults.TextFault.{TextFault}
-use Rattle.terms.specs.Bindings.{Meaning, nothing}
+use Rattle.terms.specs.Bindings.{Meaning, variable, nothing, Around, meaning}
 use Rattle.terms.specs.Texts.{First}
-use Rattle.terms.specs.Tallying.{Uses, AgainIn, WrongIn, WrongAs, FaultOf, Before, things, blamed}
+use Rattle.terms.specs.Tallying.{Uses, AgainIn, WrongIn, WrongAs, FaultOf, Before, things, one_thing}
 
 module _ (us : Uses) (m : Meaning) (q : ℕ) (before : Before us q) where
   abbrev more : Uses
@@ -67,14 +69,14 @@ module _ (us : Uses) (m : Meaning) (q : ℕ) (before : Before us q) where
   fault_same None n new h = none_same n new h
 
   -- a further use is
-  pub fault_again : (f : Option TextFault) → m ≢ nothing → (p : ℕ) → Has us (m, p) → FaultOf us f → FaultOf more (blamed f (TextFault.UsedTwice q))
+  pub fault_again : (f : Option TextFault) → m ≢ nothing → (p : ℕ) → Has us (m, p) → FaultOf us f → FaultOf more (option_or f (Some (TextFault.UsedTwice q)))
   fault_again (Some f) n p u h = fault_kept f h
   fault_again None n p u h =
       let a : AgainIn more q = (m, p, n, has_append_left us _ _ u, before m p u, has_push us (m, q)) in
       (first_new h (inr a), a)
 
 -- and so is a name without an abstraction
-pub fault_nothing : (us : Uses) (q : ℕ) → Before us q → (f : Option TextFault) → FaultOf us f → FaultOf (us ++ (nothing, q) ∷ []) (blamed f (TextFault.Unbound q))
+pub fault_nothing : (us : Uses) (q : ℕ) → Before us q → (f : Option TextFault) → FaultOf us f → FaultOf (us ++ (nothing, q) ∷ []) (option_or f (Some (TextFault.Unbound q)))
 fault_nothing us q before (Some f) h = fault_kept us nothing q before f h
 fault_nothing us q before None h =
     let u = has_push us (nothing, q) in
@@ -83,3 +85,8 @@ fault_nothing us q before None h =
 pub things_push : (us : Uses) (u : Meaning × ℕ) → things (us ++ u ∷ []) ≡ things us + things (u ∷ [])
 things_push [] u = omega arith
 things_push (v ∷ us) u = let e = things_push us u in omega arith
+
+-- a name means no item
+pub name_no_thing : (w : List ℕ) (es : Around) → one_thing (meaning w es) ≡ 0
+name_no_thing w [] = refl
+name_no_thing w (e ∷ es) = cond_both (bytes_eq w e.0) (variable e.1) (meaning w es) (λ m. one_thing m ≡ 0) (λ _. refl) (λ _. name_no_thing w es)

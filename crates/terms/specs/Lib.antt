@@ -6,7 +6,6 @@ pub mod Bindings
 pub mod Scopes
 pub mod Texts
 pub mod Scanning
-pub mod Looking
 pub mod Tallying
 pub mod Walking
 pub mod Unused

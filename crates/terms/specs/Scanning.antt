@@ -1,9 +1,10 @@
 -- How a text is read byte by byte: what private functions tell each other; no public contract cites it. Assumes nothing.
-use Rattle.std.specs.Prelude.{◌≡◌, ℕ, ◌-◌, ◌≤◌, Bool, true, false, cond, ◌&&◌, List, [], ◌∷◌, ◌++◌, length, Some, None, Option, ◌==◌, nat_lt, slice_index_or}
+use Rattle.std.specs.Prelude.{◌≡◌, ℕ, Bool, true, false, cond, ◌&&◌, List, [], ◌∷◌, ◌++◌, length, Some, None, Option, ◌==◌, nat_lt}
 use Rattle.terms.specs.Letters.{letter, small, capital, Outside}
 use Rattle.terms.specs.Named.{Named, bound, item, lam, app, Grammatical}
 use Rattle.terms.specs.declared.scanner.Scanner.{Scanner}
 use Rattle.terms.specs.declared.scanner.Mode.{Mode}
+use Rattle.terms.specs.declared.scanner.Kind.{Kind}
 
 -- what stands open around a place: an application whose function is being read, one whose function was read, an abstraction
 pub data Frame : Type 0 where
@@ -71,19 +72,31 @@ whole (thing w ks) = ended (item w) ks
 whole (done t ks) = ended t ks
 whole stuck = None
 
--- the first `depth` of the flags say which of the open applications, the outermost first, have their function read
-abbrev pub Stacked : List Bool → ℕ → List Frame → Type 0
-Stacked xs depth [] = depth ≡ 0
-Stacked xs depth (function ∷ ks) = (1 ≤ depth) × (slice_index_or xs (depth - 1) false ≡ false) × Stacked xs (depth - 1) ks
-Stacked xs depth (argument f ∷ ks) = (1 ≤ depth) × (slice_index_or xs (depth - 1) false ≡ true) × Stacked xs (depth - 1) ks
-Stacked xs depth (body w ∷ ks) = Stacked xs depth ks
+-- whether the function of each open application was read, the outermost first
+abbrev pub flags : List Frame → List Bool
+flags [] = []
+flags (function ∷ ks) = flags ks ++ false ∷ []
+flags (argument f ∷ ks) = flags ks ++ true ∷ []
+flags (body w ∷ ks) = flags ks
+
+-- the first of the letters that a word is spelt with
+abbrev pub first_letter : Kind → ℕ
+first_letter Kind.Binder = small
+first_letter Kind.Name = small
+first_letter Kind.Item = capital
+
+-- the letters w of a word are read
+abbrev pub spelling : Kind → List ℕ → List Frame → State
+spelling Kind.Binder w ks = binder w ks
+spelling Kind.Name w ks = name w ks
+spelling Kind.Item w ks = thing w ks
 
 -- what a scanner tells of a state
 abbrev pub Moded : Mode → State → Type 0
 Moded m (want ks) = m ≡ Mode.Term
-Moded m (binder w ks) = m ≡ Mode.Binder (length w)
-Moded m (name w ks) = m ≡ Mode.Name (length w)
-Moded m (thing w ks) = m ≡ Mode.Item (length w)
+Moded m (binder w ks) = m ≡ Mode.Spelling Kind.Binder (length w)
+Moded m (name w ks) = m ≡ Mode.Spelling Kind.Name (length w)
+Moded m (thing w ks) = m ≡ Mode.Spelling Kind.Item (length w)
 Moded m (done t ks) = m ≡ Mode.Done
 Moded m stuck = ⊥
 
@@ -96,7 +109,7 @@ opened (done t ks) = ks
 opened stuck = []
 
 abbrev pub Shows : Scanner → State → Type 0
-Shows c s = Moded c.mode s × Stacked c.arguments c.depth (opened s)
+Shows c s = Moded c.mode s × (c.arguments.items ≡ flags (opened s))
 
 -- what a step to the state s answers, and what it leaves
 abbrev pub Came : Bool → Scanner → State → Type 0

@@ -1,5 +1,5 @@
 -- What the uses of a text's front come to: what private functions tell each other; no public contract cites it. Assumes nothing.
-use Rattle.std.specs.Prelude.{◌≡◌, ℕ, ◌+◌, ◌<◌, Bool, false, ◌≢◌, ◌⊎◌, List, [], ◌∷◌, ◌++◌, Some, None, Decides, Option, slice_index, slice_index_or}
+use Rattle.std.specs.Prelude.{◌≡◌, ℕ, ◌+◌, ◌<◌, Bool, false, ◌≢◌, ◌⊎◌, List, [], ◌∷◌, ◌++◌, length, Some, None, Decides, Option, slice_index, slice_index_or}
 use Rattle.std.specs.List.{ContainsAt as Has}
 use Rattle.refusals.specs.declared.faults.TextFault.{TextFault}
 use Rattle.terms.specs.Letters.{WordAt, capital}
@@ -44,22 +44,23 @@ abbrev pub things : Uses → ℕ
 things [] = 0
 things (u ∷ us) = one_thing u.0 + things us
 
--- what the uses us come to: the flags of the variables, the places of the items and how many there are, and the first fault
-pub record Sums (text : List ℕ) (us : Uses) (used : List Bool) (items : List ℕ) (count : ℕ) (fault : Option TextFault) : Type 0 where
+-- what the uses us come to: the flags of the variables, the places of the items, and the first fault
+pub record Sums (text : List ℕ) (us : Uses) (used : List Bool) (items : List ℕ) (fault : Option TextFault) : Type 0 where
   pub flags : (p : ℕ) → p < 8192 → Decides (slice_index_or used p false) ((q : ℕ) × Has us (variable p, q))
-  pub stand : (k : ℕ) → k < count → (w : List ℕ) × Has us (listed w, slice_index items k) × WordAt text (slice_index items k) capital w
-  pub found : (w : List ℕ) (q : ℕ) → Has us (listed w, q) → (k : ℕ) × (k < count) × (slice_index items k ≡ q) × WordAt text q capital w
-  pub counted : count ≡ things us
+  pub stand : (k : ℕ) → k < length items → (w : List ℕ) × Has us (listed w, slice_index items k) × WordAt text (slice_index items k) capital w
+  pub found : (w : List ℕ) (q : ℕ) → Has us (listed w, q) → (k : ℕ) × (k < length items) × (slice_index items k ≡ q) × WordAt text q capital w
+  pub counted : length items ≡ things us
   pub wrong : FaultOf us fault
 
 abbrev pub Tallied : List ℕ → Uses → Tally → Type 0
-Tallied text us t = Sums text us t.used t.items t.count t.fault
+Tallied text us t = Sums text us t.used t.items.items t.fault
+
+-- what a name means that has its abstraction's name at this place, or no abstraction
+abbrev pub meant : Option ℕ → Meaning
+meant None = nothing
+meant (Some p) = variable p
 
 -- one use more
-abbrev pub Noted : List ℕ → Meaning → ℕ → Tally → Tally → Type 0
-Noted text m q old new = (us : Uses) → Tallied text us old → Before us q → Tallied text (us ++ (m, q) ∷ []) new
-
--- a fault, unless there is one
-abbrev pub blamed : Option TextFault → TextFault → Option TextFault
-blamed None f = Some f
-blamed (Some g) f = Some g
+pub record Noted (text : List ℕ) (m : Meaning) (q : ℕ) (old new : Tally) : Type 0 where
+  pub tallied : (us : Uses) → Tallied text us old → Before us q → Tallied text (us ++ (m, q) ∷ []) new
+  pub counted : length new.items.items ≡ length old.items.items + one_thing m

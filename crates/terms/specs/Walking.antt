@@ -1,4 +1,4 @@
--- A walk over the text of a term: what private functions tell each other; no public contract cites it. Assumes nothing.
+-- A walk over the text of a term: what is to be read, and what a walk knows of what was read. Assumes nothing.
 use Rattle.std.specs.Prelude.{◌≡◌, ℕ, ◌+◌, ◌-◌, ◌<◌, ◌≤◌, Bool, false, List, [], ◌∷◌, ◌++◌, length, drop, Decides, slice_index, slice_index_or}
 use Rattle.std.specs.List.{ContainsAt as Has}
 use Rattle.terms.specs.Named.{Named, bound, item, lam, app, written, Spelt, cells}
@@ -86,7 +86,7 @@ pub record Stands (text : List ℕ) (p : ℕ) (z : Todo) : Type 0 where
   pub spelt : SpeltTodo z
 
 -- at place p of the text of T, with z to be read
-pub record Walk (text : List ℕ) (T : Named) (p : ℕ) (around : List ℕ) (inner : ℕ) (saved : List ℕ) (depth : ℕ) (flags : List Bool) (count : ℕ) (tally : Tally) (z : Todo) : Type 0 where
+pub record Walk (text : List ℕ) (T : Named) (p : ℕ) (around saved : List ℕ) (flags : List Bool) (count : ℕ) (tally : Tally) (z : Todo) : Type 0 where
   pub us : Uses
   pub bs : List ℕ
   pub stands : Stands text p z
@@ -96,19 +96,15 @@ pub record Walk (text : List ℕ) (T : Named) (p : ℕ) (around : List ℕ) (inn
   pub before : Before us p
   pub tallied : Tallied text us tally
   pub flagged : (q : ℕ) → q < 8192 → Decides (slice_index_or flags q false) (Has bs q)
-  pub held : Held text around inner saved depth z
-  pub low : (inner ≤ p) × (depth ≤ p) × (count ≤ p) × (tally.count ≤ p)
+  pub held : Held text around (length around) saved (length saved) z
+  pub low : (length around ≤ p) × (length saved ≤ p) × (count ≤ p) × (length tally.items.items ≤ p)
 
-abbrev pub Walks : List ℕ → Named → ℕ → Walker → Todo → Type 0
-Walks text T p w z = Walk text T p w.around w.inner w.saved w.depth w.binders w.cells w.tally z
+abbrev pub Walks : Named → ℕ → Walker → Todo → Type 0
+Walks T p w z = Walk w.text.now T p w.around.items w.saved.items w.binders w.cells w.tally z
 
--- a walk over the text of some term has come to place p, with something of this kind to be read
-abbrev pub Comes : List ℕ → ℕ → Walker → (Todo → Type 0) → Type 0
-Comes text p w K = (T : Named) × (z : Todo) × K z × Walks text T p w z
-
--- from one place to another one
-abbrev pub Goes : List ℕ → ℕ → Walker → (Todo → Type 0) → ℕ → Walker → Type 0
-Goes text p w K q v = (T : Named) (z : Todo) → K z → Walks text T p w z → (y : Todo) × Walks text T q v y
+-- this is to be read where a walk over the text of some term has come to
+abbrev pub Reading : Walker → Todo → Type 0
+Reading w z = (T : Named) × Spelt T × (written T ≡ w.text.now) × Walks T w.at w z
 
 -- the kinds of what is to be read
 abbrev pub Abstraction : Todo → Type 0
@@ -132,6 +128,21 @@ Closing z = (es : Around) × (zs : List Later) × (z ≡ between (shut es ∷ zs
 abbrev pub Anything : Todo → Type 0
 Anything z = Unit {0}
 
--- the walk has come to the end of the text of T
-abbrev pub Walked : List ℕ → Named → Walker → Type 0
-Walked text T w = Walks text T (length text) w (between [])
+-- something of this kind is to be read
+abbrev pub Due : (Todo → Type 0) → (Todo → Type 0) → Type 0
+Due R K = (z : Todo) × K z × R z
+
+-- a walk over a text, from one place to a later one
+pub record Goes {W : Type 0} (text : W → List ℕ) (at : W → ℕ) (R : W → Todo → Type 0) (w v : W) : Type 0 where
+  pub same : text v ≡ text w
+  pub on : at w < at v
+  pub comes : Due (R v) Anything
+
+-- a walk before the first byte of the text of a term
+pub record Begins (text : List ℕ) (w : Walker) : Type 0 where
+  pub same : w.text.now ≡ text
+  pub comes : Due (Reading w) Anything
+
+-- a walk that has come to the end of the text of a term
+abbrev pub Walked : List ℕ → Walker → Type 0
+Walked text w = (T : Named) × Spelt T × (written T ≡ text) × Walk text T (length text) w.around.items w.saved.items w.binders w.cells w.tally (between [])

@@ -2,13 +2,12 @@
 ghost use Rattle.std.specs.Prelude.{◌≡◌, ℕ, ◌<◌, ◌≤◌, true, length, slice_index};
 ghost use Rattle.terms.specs.Letters.{letter, capital};
 
-/// An item: one to eight letters A to Z, in the first bytes of eight.
-#[derive(Clone, Copy)]
+use arrayvec::ArrayVec;
+
+/// An item: one to eight letters A to Z.
+#[derive(PartialEq, Eq, Drop)]
 pub struct Item {
-    pub(crate) letters: [u8; 8],
-    pub(crate) len: u8,
-    ghost wide: { length letters ≡ 8 },
-    ghost some: { 1 ≤ len },
-    ghost few: { len ≤ 8 },
-    ghost formed: { (k : ℕ) → k < len → letter capital (slice_index letters k) ≡ true },
+    pub(crate) letters: ArrayVec<u8, 8>,
+    ghost some: { 1 ≤ length letters.items },
+    ghost formed: { (k : ℕ) → k < length letters.items → letter capital (slice_index letters.items k) ≡ true },
 }

@@ -1,12 +1,12 @@
 // How a list of items is made, filled and read.
-ghost use Rattle.std.specs.Prelude.{◌≡◌, [], length, IfOk, Decides};
-ghost use Rattle.std.specs.List.{ContainsAt as Has};
+ghost use Rattle.std.specs.Prelude.{◌≡◌, [], length, IfOk};
 ghost use Rattle.terms.specs.Spelling.{spelled};
 ghost use Rattle.terms.specs.Listing.{listed, ItemRead, Got, Added};
 
 use crate::item::Item;
 use crate::items::Items;
-use crate::letters::run_of;
+use crate::letters::word_at;
+use arrayvec::ArrayVec;
 use refusals::faults::TextFault;
 use std::alloc::{AllocError, Global};
 
@@ -15,25 +15,19 @@ impl Item {
     fn read(bytes: &[u8]) -> Result<Item, TextFault>
         ensures { ItemRead bytes.now result }
     {
-        let len = run_of(bytes, 0, 65);
-        if len == 0 || len < bytes.len() {
-            return Err(TextFault::Grammar(len as u32));
+        let word = word_at(bytes, 0, b'A');
+        if word.is_empty() || word.len() < bytes.len() {
+            return Err(TextFault::Grammar(word.len() as u32));
         }
-        let mut letters = [0u8; 8];
-        for i in 0..len {
-            letters[i] = bytes[i];
-        }
-        Ok(Item {
-            letters,
-            len: len as u8,
-        })
+        let letters = ArrayVec::try_from(bytes).unwrap();
+        Ok(Item { letters })
     }
 
     /// The letters of the item.
     pub fn spelling(&self) -> &[u8]
         ensures { result.now ≡ spelled self.now }
     {
-        &self.letters[0..self.len as usize]
+        &self.letters
     }
 }
 
@@ -57,11 +51,7 @@ impl Items {
     pub fn get(&self, i: usize) -> Option<&[u8]>
         ensures { Got (listed self.now) i result }
     {
-        if i < self.items.len() {
-            Some(self.items[i].spelling())
-        } else {
-            None
-        }
+        self.items.get(i).map(Item::spelling)
     }
 
     /// Adds an item at the end; refused where the bytes spell no item, or stand in the list, or 63 items are listed.
@@ -69,7 +59,7 @@ impl Items {
         ensures { Added self.old item.now result self.new }
     {
         let new = Item::read(item)?;
-        if self.has(item) {
+        if self.items.contains(&new) {
             return Err(TextFault::UsedTwice(0));
         }
         if self.items.len() >= 63 {
@@ -77,17 +67,5 @@ impl Items {
         }
         self.items.push_reserved(new);
         Ok(())
-    }
-
-    // Whether an item is listed.
-    fn has(&self, item: &[u8]) -> bool
-        ensures { Decides result (Has (listed self.now) item.now) }
-    {
-        for i in 0..self.items.len() {
-            if self.items[i].spelling() == item {
-                return true;
-            }
-        }
-        false
     }
 }

@@ -1,22 +1,28 @@
 // The state of reading a text byte by byte.
-ghost use Rattle.std.specs.Prelude.{◌≡◌, ◌≤◌, length};
+ghost use Rattle.std.specs.Prelude.{◌≤◌, length};
 
-/// How far the reading has come: a term is due, a name or an item is being read (so many letters of it are), or a term was read.
-#[derive(Clone, Copy)]
+use arrayvec::ArrayVec;
+
+/// The kind of a word that is being read: the name of an abstraction, a bound name or an item.
+#[derive(Clone, Copy, PartialEq, Eq)]
+pub enum Kind {
+    Binder,
+    Name,
+    Item,
+}
+
+/// How far the reading has come: a term is due, so many letters of a word are read, or a term was read.
+#[derive(Clone, Copy, PartialEq, Eq)]
 pub enum Mode {
     Term,
-    Binder(u8),
-    Name(u8),
-    Item(u8),
+    Spelling(Kind, u8),
     Done,
 }
 
-/// A reader that has come to some byte of a text: its mode, and for each open application whether its function was read.
-#[derive(Clone, Copy)]
+/// A reader that has come to some byte of a text: its mode, and for each open application, the outermost first, whether its function was read.
+#[derive(Drop)]
 pub struct Scanner {
     pub(crate) mode: Mode,
-    pub(crate) arguments: [bool; 8192],
-    pub(crate) depth: u16,
-    ghost wide: { length arguments ≡ 8192 },
-    ghost inside: { depth ≤ 8192 },
+    pub(crate) arguments: ArrayVec<bool, 8192>,
+    ghost inside: { length arguments.items ≤ 8192 },
 }

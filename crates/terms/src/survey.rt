@@ -5,8 +5,8 @@ ghost use Rattle.terms.specs.Unused.{UnusedFound};
 
 use crate::grammar::check_grammar;
 use crate::size::Size;
+use crate::text_walk::TextWalk;
 use crate::walker::Walker;
-use crate::walking::walk;
 use refusals::faults::TextFault;
 
 /// Looks at every byte of a text: the length, the grammar, the uses in their order, the abstractions in their order, and then the limits.
@@ -16,19 +16,21 @@ pub fn survey_text(text: &[u8]) -> Result<Size, TextFault>
     ensures one { OneAnswer text.now }
 {
     check_grammar(text)?;
-    let walker = walk(text);
+    let mut walker = Walker::new(text);
+    walker.walk();
     if let Some(fault) = walker.tally.fault {
         return Err(fault);
     }
     if let Some(at) = find_unused(&walker) {
         return Err(TextFault::Unused(at));
     }
-    if walker.tally.count > 63 || walker.cells > 1024 {
+    let items = walker.tally.items.len();
+    if items > 63 || walker.cells > 1024 {
         return Err(TextFault::TooLarge);
     }
     Ok(Size {
         cells: walker.cells,
-        items: walker.tally.count,
+        items: items as u16,
     })
 }
 
@@ -36,10 +38,10 @@ pub fn survey_text(text: &[u8]) -> Result<Size, TextFault>
 fn find_unused(walker: &Walker) -> Option<u32>
     ensures { UnusedFound walker.now.binders walker.now.tally.used result }
 {
-    for at in 0..8192u32 {
-        if walker.binders[at as usize] && !walker.tally.used[at as usize] {
-            return Some(at);
-        }
-    }
-    None
+    walker
+        .binders
+        .iter()
+        .zip(&walker.tally.used)
+        .position(|(binder, used)| *binder && !*used)
+        .map(|at| at as u32)
 }

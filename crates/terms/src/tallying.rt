@@ -1,74 +1,67 @@
 // How uses are tallied.
-ghost use Rattle.std.specs.Prelude.{◌≡◌, ℕ, ◌+◌, ◌<◌, ◌≤◌, List, [], length, Some, None};
+ghost use Rattle.std.specs.Prelude.{ℕ, ◌<◌, List, [], IfSome};
+ghost use Rattle.arrayvec.specs.ArrayVec.{array_vec_len};
 ghost use Rattle.terms.specs.Bindings.{variable, listed, nothing};
 ghost use Rattle.terms.specs.Letters.{WordAt, capital};
-ghost use Rattle.terms.specs.Tallying.{Tallied, Noted, blamed};
+ghost use Rattle.terms.specs.Tallying.{meant, Tallied, Noted};
 
-use crate::letters::word_at;
 use crate::looking::find_item;
 use crate::tally::Tally;
+use arrayvec::ArrayVec;
 use refusals::faults::TextFault;
 
 impl Tally {
     // No uses yet.
-    pub(crate) fn new(text: &[u8]) -> Tally
-        ensures { Tallied text.now [] result }
+    pub(crate) fn new() -> Tally
+        ensures { (text : List ℕ) → Tallied text [] result }
     {
         Tally {
             used: [false; 8192],
-            items: [0; 8192],
-            count: 0,
+            items: ArrayVec::new(),
             fault: None,
         }
     }
 
-    // Notes a bound name that has no abstraction.
-    pub(crate) fn note_unbound(&mut self, text: &[u8], at: u32)
-        ensures noted { Noted text.now nothing at self.old self.new }
-        ensures counted { self.new.count ≡ self.old.count }
+    // Notes a bound name, with the place of its abstraction's name, if it has one.
+    pub(crate) fn note_name(&mut self, binder: Option<u16>, at: u32)
+        requires { IfSome binder (λ place. place < 8192) }
+        ensures { (text : List ℕ) → Noted text (meant binder) at self.old self.new }
     {
-        self.fault = blame(self.fault, TextFault::Unbound(at));
+        match binder {
+            Some(binder) => self.note_variable(binder, at),
+            None => self.note_unbound(at),
+        }
+    }
+
+    // Notes a bound name that has no abstraction.
+    fn note_unbound(&mut self, at: u32)
+        ensures { (text : List ℕ) → Noted text nothing at self.old self.new }
+    {
+        self.fault = self.fault.or(Some(TextFault::Unbound(at)));
     }
 
     // Notes a use of the variable of the abstraction whose name stands at a place.
-    pub(crate) fn note_variable(&mut self, text: &[u8], binder: u16, at: u32)
+    fn note_variable(&mut self, binder: u16, at: u32)
         requires { binder < 8192 }
-        ensures noted { Noted text.now (variable binder) at self.old self.new }
-        ensures counted { self.new.count ≡ self.old.count }
+        ensures { (text : List ℕ) → Noted text (variable binder) at self.old self.new }
     {
         let again = self.used[binder as usize];
         self.used[binder as usize] = true;
         if again {
-            self.fault = blame(self.fault, TextFault::UsedTwice(at));
+            self.fault = self.fault.or(Some(TextFault::UsedTwice(at)));
         }
     }
 
-    // Notes an item.
-    pub(crate) fn note_item(&mut self, text: &[u8], at: u16)
-        requires { self.old.count < 8192 }
-        ensures noted { (w : List ℕ) → WordAt text.now at capital w → Noted text.now (listed w) at self.old self.new }
-        ensures counted { self.new.count ≡ self.old.count + 1 }
+    // Notes an item, which stands at a place of the text.
+    pub(crate) fn note_item(&mut self, text: &[u8], item: &[u8], at: u16)
+        requires room { array_vec_len self.old.items < 8192 }
+        requires here { WordAt text.now at capital item.now }
+        ensures { Noted text.now (listed item.now) at self.old self.new }
     {
-        let again = find_item(
-            text,
-            &self.items,
-            self.count,
-            word_at(text, at as usize, 65),
-        );
-        self.items[self.count as usize] = at;
-        self.count += 1;
+        let again = find_item(text, &self.items, item);
+        self.items.push(at);
         if again {
-            self.fault = blame(self.fault, TextFault::UsedTwice(at as u32));
+            self.fault = self.fault.or(Some(TextFault::UsedTwice(at as u32)));
         }
-    }
-}
-
-// A fault, unless there is one already.
-fn blame(first: Option<TextFault>, later: TextFault) -> Option<TextFault>
-    ensures { result ≡ blamed first later }
-{
-    match first {
-        Some(fault) => Some(fault),
-        None => Some(later),
     }
 }

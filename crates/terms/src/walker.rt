@@ -1,20 +1,21 @@
 // A walk over the text of a term, to find what its names mean.
-ghost use Rattle.std.specs.Prelude.{◌≡◌, length};
+ghost use Rattle.std.specs.Prelude.{◌≡◌, ◌≤◌, length};
 
 use crate::tally::Tally;
+use arrayvec::ArrayVec;
 
-/// A walk over the front of a text: the places of the names of the abstractions around, the outermost first, and how many there are;
-/// for each open application how many are around it; where names of abstractions stand; how many cells there are; and what the uses come to.
-#[derive(Clone, Copy)]
-pub struct Walker {
-    pub(crate) around: [u16; 8192],
-    pub(crate) inner: u16,
-    pub(crate) saved: [u16; 8192],
-    pub(crate) depth: u16,
+/// A walk that has come to a place of a text: the places of the names of the abstractions around, and for each open application how many are around it,
+/// the outermost first; where names of abstractions stand; how many cells there are; and what the uses come to.
+#[derive(Drop)]
+pub struct Walker<'t> {
+    pub(crate) text: &'t [u8],
+    pub(crate) at: usize,
+    pub(crate) around: ArrayVec<u16, 8192>,
+    pub(crate) saved: ArrayVec<u16, 8192>,
+    // a set of places in fixed memory: a flag for each byte of the text
     pub(crate) binders: [bool; 8192],
     pub(crate) cells: u16,
     pub(crate) tally: Tally,
-    ghost wide: { length around ≡ 8192 },
-    ghost deep: { length saved ≡ 8192 },
+    ghost short: { length text.now ≤ 8192 },
     ghost long: { length binders ≡ 8192 },
 }

@@ -1,25 +1,11 @@
-use Rattle.std.proofs.Common.{refl, inl, inr, arith}
-use Rattle.terms.specs.Scanning.{done, closed}
-use Rattle.terms.proofs.Stacks.{closed_stuck, closed_goes}
-use Rattle.terms.proofs.Steps.{shown_by}
+use Rattle.std.proofs.Common.{true, refl, sym, ◌∙◌}
+use Rattle.terms.proofs.Stacks.{popped, not_popped}
+use Rattle.terms.proofs.Steps.{closed_by}
 use Rattle.terms.proofs.scanner.Scanner.close.Goals as goal
 
-pub returns-then-self-eq0 : goal.returns-then-self-eq0
-returns-then-self-eq0 c = record {
-  came = λ t ks h. closed_stuck c.args.self.now.arguments c.args.self.now.depth t ks (inl c.if-self-eq0.true) h;
-  deeper = omega arith;
-}
-
-pub returns-then-not-self-last : goal.returns-then-not-self-last
-returns-then-not-self-last c = record {
-  came = λ t ks h. closed_stuck c.args.self.now.arguments c.args.self.now.depth t ks (inr c.if-not-self-last.true) h;
-  deeper = omega arith;
-}
-
 pub returns : goal.returns
-returns c = record {
-  came = λ t ks h.
-      let g = closed_goes c.args.self.now.arguments c.args.self.now.depth t ks (omega arith) c.if-not-self-last.false h in
-      shown_by _ _ _ (closed t ks) (done g.0 g.1) g.2 refl g.3;
-  deeper = omega arith;
-}
+returns c t ks h =
+    let xs = c.args.self.now.arguments.items in
+    let ys = c.pop.new.self.items in
+    closed_by _ _ t ks refl (λ e. sym h ∙ popped xs ys c.pop.result true c.pop.ensures.items (sym c.eq.ensures ∙ e))
+    (λ e zs z. not_popped xs ys zs c.pop.result true c.pop.ensures.variant.1 c.pop.ensures.items (sym c.eq.ensures ∙ e) (h ∙ z))

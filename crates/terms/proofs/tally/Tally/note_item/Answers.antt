@@ -1,29 +1,35 @@
-use Rattle.std.proofs.Common.{◌+◌, true, false, [], ◌∷◌, ◌++◌, set, sym, refl, subst, arith}
+use Rattle.std.proofs.Common.{Some, [], ◌∷◌, ◌++◌, sym, subst, arith}
+use Rattle.std.specs.List.{Any}
+use Rattle.std.specs.Option.{option_or}
+use Rattle.std.proofs.lemmas.Bool.{both_ways}
+use Rattle.refusals.specs.declared.faults.TextFault.{TextFault}
+use Rattle.terms.specs.Letters.{ReadAt, capital}
 use Rattle.terms.specs.Bindings.{listed}
-use Rattle.terms.specs.Looking.{Standing}
 use Rattle.terms.specs.Tallying.{Sums}
 use Rattle.terms.proofs.Tallies.{sums_item_new, sums_item_again}
 use Rattle.terms.proofs.tally.Tally.note_item.Goals as goal
 
 pub returns-then-again : goal.returns-then-again
 returns-then-again c = record {
-  noted = λ w here us h b.
+  tallied = λ us h b.
       let t = c.args.self.now in
       let text = c.args.text.now in
-      let at = c.args.at in
-      let stands : Standing text t.items t.count w true = subst (λ x. Standing text t.items t.count x true) (c.word_at.ensures.word w here) (subst (λ r. Standing text t.items t.count c.word_at.result.now r) c.if-again.true c.find_item-again.ensures) in
-      subst (λ f. Sums text (us ++ (listed w, at) ∷ []) t.used (set t.items t.count at) (t.count + 1) f) (sym c.blame-self.ensures)
-      (sums_item_again text us t.used t.items t.count t.fault at b h w here (omega (arith, t.long, c.requires)) stands);
-  counted = refl;
+      let w = c.args.item.now in
+      let listed_before = subst (λ xs. Any (λ p. ReadAt text p capital w) xs) c.deref.ensures.0 (c.find_item-again.ensures.0 c.if-again.true) in
+      subst (λ f. Sums text (us ++ (listed w, c.args.at) ∷ []) t.used c.push.new.self.items f) (sym c.or-self.ensures)
+      (subst (λ xs. Sums text (us ++ (listed w, c.args.at) ∷ []) t.used xs (option_or t.fault (Some (TextFault.UsedTwice c.args.at)))) (sym c.push.ensures.items)
+      (sums_item_again text us t.used t.items.items t.fault c.args.at b h w c.requires.here listed_before));
+  counted = omega (arith, c.push.ensures.len);
 }
 
 pub returns-else-again : goal.returns-else-again
 returns-else-again c = record {
-  noted = λ w here us h b.
+  tallied = λ us h b.
       let t = c.args.self.now in
       let text = c.args.text.now in
-      let at = c.args.at in
-      let stands : Standing text t.items t.count w false = subst (λ x. Standing text t.items t.count x false) (c.word_at.ensures.word w here) (subst (λ r. Standing text t.items t.count c.word_at.result.now r) c.if-again.false c.find_item-again.ensures) in
-      sums_item_new text us t.used t.items t.count t.fault at b h w here (omega (arith, t.long, c.requires)) stands;
-  counted = refl;
+      let w = c.args.item.now in
+      subst (λ xs. Sums text (us ++ (listed w, c.args.at) ∷ []) t.used xs t.fault) (sym c.push.ensures.items)
+      (sums_item_new text us t.used t.items.items t.fault c.args.at b h w c.requires.here
+      (λ i. both_ways _ c.if-again.false (c.find_item-again.ensures.1 (subst (λ xs. Any (λ p. ReadAt text p capital w) xs) (sym c.deref.ensures.0) i))));
+  counted = omega (arith, c.push.ensures.len);
 }
