@@ -6,7 +6,7 @@ ghost use Rattle.std.proofs.Common.{refl};
 use crate::book::Book;
 use crate::shelf::look;
 use crate::table::RulePort::{L, N, R};
-use crate::table::{NewCell, RuleTable, Wire};
+use crate::table::{Cell, RuleTable, Wire};
 
 /// The kind γ, which has two auxiliary ports.
 pub const GAMMA: u8 = 0;
@@ -21,19 +21,19 @@ pub const EPSILON: u8 = 2;
 static ARITIES: [u8; 3] = [2, 2, 0];
 
 /// A new γ.
-const NEW_GAMMA: NewCell = NewCell {
+const NEW_GAMMA: Cell = Cell {
     kind: GAMMA,
     arity: 2,
 };
 
 /// A new δ.
-const NEW_DELTA: NewCell = NewCell {
+const NEW_DELTA: Cell = Cell {
     kind: DELTA,
     arity: 2,
 };
 
 /// A new ε.
-const NEW_EPSILON: NewCell = NewCell {
+const NEW_EPSILON: Cell = Cell {
     kind: EPSILON,
     arity: 0,
 };

@@ -6,7 +6,7 @@ ghost use Rattle.std.proofs.Common.{refl};
 use crate::book::Book;
 use crate::shelf::look;
 use crate::table::RulePort::{L, N, R};
-use crate::table::{NewCell, RuleTable, Wire};
+use crate::table::{Cell, RuleTable, Wire};
 
 /// The kind Z, the number zero.
 pub const ZERO: u8 = 0;
@@ -21,13 +21,13 @@ pub const ADDITION: u8 = 2;
 static ARITIES: [u8; 3] = [0, 1, 2];
 
 /// A new S.
-const NEW_SUCCESSOR: NewCell = NewCell {
+const NEW_SUCCESSOR: Cell = Cell {
     kind: SUCCESSOR,
     arity: 1,
 };
 
 /// A new A.
-const NEW_ADDITION: NewCell = NewCell {
+const NEW_ADDITION: Cell = Cell {
     kind: ADDITION,
     arity: 2,
 };

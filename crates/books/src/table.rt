@@ -12,9 +12,9 @@ pub enum RulePort {
 #[derive(Clone, Copy, PartialEq, Eq)]
 pub struct Wire(pub RulePort, pub RulePort);
 
-/// A cell that enters: its kind and its arity.
+/// A cell: its kind and its arity.
 #[derive(Clone, Copy, PartialEq, Eq)]
-pub struct NewCell {
+pub struct Cell {
     pub kind: u8,
     pub arity: u8,
 }
@@ -24,6 +24,6 @@ pub struct NewCell {
 pub struct RuleTable<'a> {
     pub left: u8,
     pub right: u8,
-    pub cells: &'a [NewCell],
+    pub cells: &'a [Cell],
     pub wires: &'a [Wire],
 }

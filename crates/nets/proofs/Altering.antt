@@ -1,7 +1,8 @@
 -- Links that show a wiring under one change of names show it under another that does the same to what is live. Assumes nothing.
-use Rattle.std.proofs.Common.{◌≡◌, ℕ, ◌<◌, ◌≤◌, Bool, true, false, cond, ◌≢◌, ◌⊎◌, List, sym, refl, ap, ◌∙◌, subst, ap₂, inl, inr, arith}
+use Rattle.std.proofs.Common.{◌≡◌, ℕ, ◌<◌, ◌≤◌, Bool, true, false, cond, ◌≢◌, ◌⊎◌, List, Option, IfSome, sym, refl, ap, ◌∙◌, subst, ap₂, inl, inr, arith}
 use Rattle.std.proofs.lemmas.Bool.{cases_eq, cases_lt}
 use Rattle.nets.specs.declared.link.Link.{Link}
+use Rattle.std.specs.Bool.{then_some}
 use Rattle.nets.specs.Rewiring.{Shows, trade, part, under, renamed, Parked, Cleared}
 use Rattle.nets.proofs.Slots.{same_live}
 use Rattle.nets.proofs.Parking.{trade_p, trade_else, trade_twice, part_above, part_below, part_twice}
@@ -9,6 +10,18 @@ use Rattle.nets.proofs.Renaming.{move_twice, renamed_mutual}
 use Rattle.calculus.specs.Spots.{Spot, end, port, carry}
 use Rattle.calculus.proofs.Splice.{spot, Mutual}
 use Rattle.calculus.proofs.Beside.{Bounded}
+
+-- the spare row is given where a test passes
+pub record ClearedIf (xs : List Link) (p t n : ℕ) (b : Bool) (ys : List Link) (r : ℕ) : Type 0 where
+  pub moved : b ≡ true → (r ≡ t) × Parked xs p t n ys
+  pub stayed : b ≡ false → (r ≡ p) × (ys ≡ xs)
+
+pub cleared_if : (xs : List Link) (p t n : ℕ) (b : Bool) (ys : List Link) (r : ℕ) (o : Option ℕ) → o ≡ then_some b t → Cleared xs p o n ys r → ClearedIf xs p t n b ys r
+cleared_if xs p t n b ys r o e C = record { moved = λ h. C.moved t (e ∙ ap (λ (b : Bool). then_some b t) h); stayed = λ h. C.stayed (e ∙ ap (λ (b : Bool). then_some b t) h) }
+
+pub if_spare : (P : ℕ → Type 0) (b : Bool) (t : ℕ) (o : Option ℕ) → o ≡ then_some b t → P t → IfSome o P
+if_spare P true t o e h = subst (λ (o : Option ℕ). IfSome o P) (sym e) h
+if_spare P false t o e h = subst (λ (o : Option ℕ). IfSome o P) (sym e) tt
 
 pub alter : (xs : List Link) (m f f' g : Spot → Spot) → Mutual m → ((y : Spot) → g (g y) ≡ y) → ((x : Spot) → m x ≢ x → (f x ≡ g x) × (f' (f x) ≡ x)) →
     Shows xs (λ y. f (m (f' y))) → Shows xs (under g m)
@@ -78,7 +91,7 @@ still_carried (port r j) = refl
 -- a row cleared or not
 pub clear_shows : (m : Spot → Spot) → Mutual m → (p t n : ℕ) → ((j : ℕ) → m (port t j) ≡ port t j) → m (port p 0) ≡ port p 0 →
     ((j : ℕ) → 1 ≤ j → j ≤ n → m (port p j) ≢ port p j) → ((j : ℕ) → m (port p j) ≢ port p j → j ≤ n) →
-    (b : Bool) (xs ys : List Link) (r : ℕ) → Cleared xs p t n b ys r → Shows xs m → Shows ys (renamed (trade_if b p t) m) × (r ≡ cond b t p)
+    (b : Bool) (xs ys : List Link) (r : ℕ) → ClearedIf xs p t n b ys r → Shows xs m → Shows ys (renamed (trade_if b p t) m) × (r ≡ cond b t p)
 clear_shows m inv p t n dt p0 pl pd true xs ys r C S = let x = C.moved refl in (park_shows m inv p t n dt p0 pl pd xs ys x.1 S, x.0)
 clear_shows m inv p t n dt p0 pl pd false xs ys r C S =
     let x = C.stayed refl in (
@@ -142,7 +155,7 @@ module _ (m : Spot → Spot) (inv : Mutual m) (bm : Bounded 1024 m) (p q a b u v
   stirs : (r j : ℕ) → r ≢ p → r ≢ u → renamed (trade_if c p u) m (port r j) ≡ port r j → m (port r j) ≡ port r j
   stirs r j n o e = sym (gg (m (port r j))) ∙ ap (carry (trade_if c p u)) (sym (moved_row r j n o) ∙ e) ∙ g_still r j n o
 
-  pub cleared : (xs ys zs : List Link) (top low : ℕ) → Cleared xs p u a c ys top → Cleared ys q v b d zs low → Shows xs m →
+  pub cleared : (xs ys zs : List Link) (top low : ℕ) → ClearedIf xs p u a c ys top → ClearedIf ys q v b d zs low → Shows xs m →
       Shows zs (renamed f m) × (top ≡ f p) × (low ≡ f q)
   cleared xs ys zs top low C D S =
       let qp : q ≢ p = λ z. pq (sym z) in

@@ -19,15 +19,17 @@ use Rattle.nets.specs.Meaning.{Content, content, kind_at, arity_at, mate_of, net
 use Rattle.nets.specs.Fitting.{Paired, Fitting, Told}
 use Rattle.nets.specs.Rewrites.{Face, ports_at, pair, Seats}
 use Rattle.nets.specs.ByBook.{seat}
-use Rattle.nets.specs.Rewiring.{Known, row_of, number_of, seat_of, Room, Places, Filled, Cleared, Laid, Strung}
+use Rattle.nets.specs.Rewiring.{Known, row_of, number_of, seat_of, Room, Places, Laid, Strung}
 use Rattle.nets.specs.Seating.{Replaceable, Seated, Downwards}
 use Rattle.nets.proofs.Places.{bit_low}
+use Rattle.nets.proofs.Filling.{Listed}
 use Rattle.nets.specs.Inner.{there}
 use Rattle.nets.proofs.Standing.{either, at_slot, decode_code, code_decode, code_small, mate_there, is_there, there_port, port_there, some_arity}
 use Rattle.nets.proofs.Standing as standing
 use Rattle.nets.proofs.Seatings.{turn, vacant, none_above, none_between, lower, given_up, places, new_on, gone_off, others, long, turned, left_row, right_row}
 use Rattle.nets.proofs.Makeshift.{arity_of, rule_for, book_for, arity_else, cell_arity, laws_for, listing_long}
 use Rattle.nets.proofs.Loops.{two_circuits}
+use Rattle.nets.proofs.Altering.{ClearedIf}
 use Rattle.nets.proofs.Reworking.{net_with, Sound, Booked, kind_is, kind_some, kind_none, is_seat, GivenSeats, Relinked, Peopled, booked, free, is_rewriting, twice_after, linked_after}
 
 -- a table is sound
@@ -120,13 +122,13 @@ pub record Did (s : Table) (p q : ℕ) (r : RuleTable) (d : Content) : Type 0 wh
   pub ps : List ℕ
   pub seated : Seated p q (length r.cells.now) s.occupied ps d.occupied
   pub relinked : Relinked (content s) p q (length r.cells.now) (wires_of r) ps (1024 + turn p q) (1025 - turn p q) (ltb (turn p q) (length r.cells.now)) (ltb (1 - turn p q) (length r.cells.now)) d.links d.loops
-  pub kinds : Filled (content s).kinds (kinds_of r) (length r.cells.now) ps d.kinds
-  pub arities : Filled (content s).arities (arities_of r) (length r.cells.now) ps d.arities
+  pub kinds : Listed (content s).kinds (kinds_of r) (length r.cells.now) ps d.kinds
+  pub arities : Listed (content s).arities (arities_of r) (length r.cells.now) ps d.arities
   pub ends : d.ends ≡ s.ends
 
 -- the steps on the links, with what the code read in place of what it means
 pub relinked_of : (s : Table) (p q : ℕ) (r : RuleTable) (ps : List ℕ) (us vs xs ys zs : List Link) (tn x y top low i j l : ℕ) → tn ≡ turn p q → x ≡ ports_at s p → y ≡ ports_at s q →
-    Cleared (content s).links p (1024 + tn) x (ltb tn (length r.cells.now)) us top → Cleared us q (1025 - tn) y (ltb (1 - tn) (length r.cells.now)) vs low → Laid vs (wires_of r) ps xs →
+    ClearedIf (content s).links p (1024 + tn) x (ltb tn (length r.cells.now)) us top → ClearedIf us q (1025 - tn) y (ltb (1 - tn) (length r.cells.now)) vs low → Laid vs (wires_of r) ps xs →
     Strung xs top 1028 x ys i → Strung ys low 1029 y zs j → l ≡ s.loops + i + j →
     Relinked (content s) p q (length r.cells.now) (wires_of r) ps (1024 + turn p q) (1025 - turn p q) (ltb (turn p q) (length r.cells.now)) (ltb (1 - turn p q) (length r.cells.now)) zs l
 relinked_of s p q r ps us vs xs ys zs tn x y top low i j l et ex ey C D A T U e = record {
@@ -138,8 +140,8 @@ relinked_of s p q r ps us vs xs ys zs tn x y top low i j l et ex ey C D A T U e 
   low = low;
   i = i;
   j = j;
-  top_clear = subst (λ (t : ℕ). Cleared (content s).links p (1024 + t) (ports_at s p) (ltb t (length r.cells.now)) us top) et (subst (λ (x : ℕ). Cleared (content s).links p (1024 + tn) x (ltb tn (length r.cells.now)) us top) ex C);
-  low_clear = subst (λ (t : ℕ). Cleared us q (1025 - t) (ports_at s q) (ltb (1 - t) (length r.cells.now)) vs low) et (subst (λ (y : ℕ). Cleared us q (1025 - tn) y (ltb (1 - tn) (length r.cells.now)) vs low) ey D);
+  top_clear = subst (λ (t : ℕ). ClearedIf (content s).links p (1024 + t) (ports_at s p) (ltb t (length r.cells.now)) us top) et (subst (λ (x : ℕ). ClearedIf (content s).links p (1024 + tn) x (ltb tn (length r.cells.now)) us top) ex C);
+  low_clear = subst (λ (t : ℕ). ClearedIf us q (1025 - t) (ports_at s q) (ltb (1 - t) (length r.cells.now)) vs low) et (subst (λ (y : ℕ). ClearedIf us q (1025 - tn) y (ltb (1 - tn) (length r.cells.now)) vs low) ey D);
   laid_in = A;
   left = subst (λ (x : ℕ). Strung xs top 1028 x ys i) ex T;
   right = subst (λ (y : ℕ). Strung ys low 1029 y zs j) ey U;

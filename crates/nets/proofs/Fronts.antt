@@ -1,6 +1,9 @@
 -- The map in which just the first places are occupied. Assumes nothing.
-use Rattle.std.proofs.Common.{◌≡◌, ℕ, ◌+◌, ◌-◌, ◌*◌, ◌/◌, ◌%◌, ◌^◌, ◌<◌, ◌≤◌, Bool, true, false, cond, eqb, ltb, ◌⊎◌, List, length, get_or, sym, refl, ap, ◌∙◌, inl, inr, arith}
-use Rattle.std.proofs.lemmas.Bool.{cases_lt}
+use Rattle.std.proofs.Common.{◌≡◌, ℕ, zero, suc, ◌≢◌, subst, ◌+◌, ◌-◌, ◌*◌, ◌/◌, ◌%◌, ◌^◌, ◌<◌, ◌≤◌, Bool, true, false, cond, eqb, ltb, ◌⊎◌, List, length, get_or, sym, refl, ap, ◌∙◌, inl, inr, arith}
+use denote.Param.Members.{Mut}
+use Rattle.std.specs.Fn.{Called}
+use Rattle.std.specs.Array.{IsFromFnResultFrom}
+use Rattle.std.proofs.lemmas.Bool.{cases_lt, cases_eq}
 use Rattle.calculus.proofs.Tests.{below?, below_at}
 use Rattle.nets.specs.Layout.{bit}
 use Rattle.nets.specs.Inner.{Front}
@@ -30,3 +33,15 @@ front_of n map few l f = (l, λ r. go r (cases_lt r 1024))
     go r (inr h) =
         let b : ltb r n ≡ false = grind (arith) in
         bit_past map r (omega arith) ∙ sym (ap (λ (t : Bool). cond t 1 0) b)
+
+-- what a closure that only reads gives at each index, where it makes an array
+pub made : {F : Type 0} (g : Mut F (ℕ × Unit {0}) ℕ) (f : F) (P : ℕ → ℕ → Type 0) → ((i y : ℕ) (q : F) → Called g f (i, tt) y q → (q ≡ f) × P i y) →
+    (ys : List ℕ) (i n : ℕ) → IsFromFnResultFrom g f ys i n → (k : ℕ) → i ≤ k → k < i + n → P k (get_or ys k 0)
+made g f P c ys i zero t k a b = absurd (omega arith)
+made g f P c ys i (suc n) (q, y, e, s, t) k a b =
+    let d = c i y q s in
+    go (cases_eq k i) (λ o. made g f P c ys (i + 1) n (subst (λ (p : _). IsFromFnResultFrom g p ys (i + 1) n) d.0 t) k (omega arith) (omega arith))
+  where
+    go : (k ≡ i) ⊎ (k ≢ i) → (k ≢ i → P k (get_or ys k 0)) → P k (get_or ys k 0)
+    go (inl d) h = subst (λ (k : ℕ). P k (get_or ys k 0)) (sym d) (subst (P i) (sym (e.1 0)) (c i y q s).1)
+    go (inr o) h = h o

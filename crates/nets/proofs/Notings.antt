@@ -9,7 +9,7 @@ use Rattle.std.proofs.lemmas.Bool.{cases_eq, both_ways, and_parts, and_from, leb
 use Rattle.calculus.specs.Books.{RulePort, L, R, N, Wired}
 use Rattle.calculus.proofs.Wiring.{rule_port}
 use Rattle.calculus.proofs.Tests.{nth_within}
-use Rattle.books.specs.declared.table.NewCell.{NewCell}
+use Rattle.books.specs.declared.table.Cell.{Cell}
 use Rattle.books.specs.declared.table.RuleTable.{RuleTable}
 use Rattle.books.specs.Tables.{arities_of, wires_of}
 use Rattle.nets.specs.Fitting.{Paired, Fitting, Told}
@@ -251,12 +251,12 @@ row_told mates row from to b l h i m a = go b a
         not_none (get_or part (j - from) None) (g (j - from) None (omega arith) (omega (arith, long))) (read (j - from) h ∙ ap (λ (s : ℕ). get_or mates s None) e ∙ z)
 
 -- cells of arity at most 2
-all_small : (cs : List NewCell) → list_all (λ c. leb c.arity 2) cs ≡ true → (i : ℕ) → i < length cs → get_or (map (λ c. c.arity) cs) i 0 ≤ 2
+all_small : (cs : List Cell) → list_all (λ c. leb c.arity 2) cs ≡ true → (i : ℕ) → i < length cs → get_or (map (λ c. c.arity) cs) i 0 ≤ 2
 all_small [] t i h = absurd (omega arith)
 all_small (c ∷ cs) t zero h = leb-true c.arity 2 (and_parts (leb c.arity 2) (list_all (λ c. leb c.arity 2) cs) t).0
 all_small (c ∷ cs) t (suc i) h = all_small cs (and_parts (leb c.arity 2) (list_all (λ c. leb c.arity 2) cs) t).1 i (omega arith)
 
-small_all : (cs : List NewCell) → ((i : ℕ) → i < length cs → get_or (map (λ c. c.arity) cs) i 0 ≤ 2) → list_all (λ c. leb c.arity 2) cs ≡ true
+small_all : (cs : List Cell) → ((i : ℕ) → i < length cs → get_or (map (λ c. c.arity) cs) i 0 ≤ 2) → list_all (λ c. leb c.arity 2) cs ≡ true
 small_all [] f = refl
 small_all (c ∷ cs) f =
     and_from (leb c.arity 2) (list_all (λ c. leb c.arity 2) cs) (le-leb c.arity 2 (f 0 (omega arith))) (small_all cs (λ i h. f (suc i) (omega arith)))

@@ -1,9 +1,10 @@
 -- The occupancy map: its bits, places and set bits. Assumes nothing.
-use Rattle.std.proofs.Common.{◌≡◌, ℕ, zero, suc, ◌+◌, ◌*◌, ◌/◌, ◌%◌, ◌^◌, ◌<◌, ◌≤◌, Bool, true, false, cond, eqb, ◌≢◌, ◌⊎◌, List, length, get_or, take, Some, None, sum_by, sym, refl, ap, ◌∙◌, inl, inr, add-one, arith}
+use Rattle.std.proofs.Common.{◌≡◌, ℕ, zero, suc, ◌+◌, ◌*◌, ◌/◌, ◌%◌, ◌^◌, ◌<◌, ◌≤◌, Bool, true, false, cond, eqb, ◌≢◌, ◌⊎◌, List, length, get_or, take, Some, None, sum_by, sym, refl, ap, ◌∙◌, subst, inl, inr, add-one, arith}
 use native.Mathlib.Nat.{zero-div}
-use lib.Count.{ones, ones_step, ones-ones}
-use Rattle.std.proofs.lemmas.List.Sums.{sum_by_more}
-use Rattle.std.proofs.lemmas.List.{get_or_past}
+use lib.Count.{ones, ones-le, ones_step, ones-ones}
+use Rattle.std.proofs.lemmas.List.Sums.{sum_by_more, sum_by-le}
+use Rattle.std.proofs.lemmas.List.Elements.{All-from_get_or}
+use Rattle.std.proofs.lemmas.List.{get_or_past, take_all}
 use Rattle.std.proofs.lemmas.Bool.{cases_eq}
 use Rattle.nets.specs.Layout.{bit}
 use Rattle.nets.specs.Meaning.{Content, kind_at, net_of, cells_below}
@@ -103,3 +104,14 @@ cells_are_bits c f (suc i) h =
     let e : suc i * 8 ≡ i * 8 + 8 = omega arith in
     ap (cells_below (net_of c)) e ∙ eight_places c i (f i) ∙ ap (λ (x : ℕ). x + ones (get_or c.occupied i 0)) (cells_are_bits c f i (omega arith))
     ∙ sym (sum_by_more ones c.occupied i 0 (omega arith)) ∙ ap (λ (k : ℕ). sum_by ones (take k c.occupied)) (add-one i)
+
+-- a byte has at most eight set bits
+pub few_ones : (bs : List ℕ) → ((k : ℕ) → get_or bs k 0 < 256) → sum_by ones bs ≤ 8 * length bs
+few_ones bs f = let s = sum_by-le ones 8 bs (All-from_get_or (λ b. ones b ≤ 8) bs 0 (λ i h. ones-le 8 (get_or bs i 0) (f i))) in omega arith
+
+-- the same of a map that a table has
+pub live_ones : (bs : List ℕ) (n : ℕ) → ((k : ℕ) → get_or bs k 0 < 256) → length bs ≡ 128 → n ≡ sum_by ones bs → (c : Content) → c.occupied ≡ bs → n ≡ cells_below (net_of c) 1024
+live_ones bs n f l s c e =
+    let t : take 128 c.occupied ≡ bs = ap (take 128) e ∙ take_all 128 bs (omega arith) in
+    let h : 128 ≤ length c.occupied = subst (λ (xs : List ℕ). 128 ≤ length xs) (sym e) (omega arith) in
+    s ∙ ap (sum_by ones) (sym t) ∙ sym (cells_are_bits c (λ k. subst (λ (xs : List ℕ). get_or xs k 0 < 256) (sym e) (f k)) 128 h)

@@ -8,12 +8,15 @@ use Rattle.calculus.specs.Nets.{Pair, Active}
 use Rattle.books.specs.declared.table.RuleTable.{RuleTable}
 use Rattle.books.proofs.Depicted.{cells_same}
 use Rattle.books.specs.Answers.{Meant, Found, Answers}
+use Rattle.nets.specs.Layout.{kinds}
 use Rattle.nets.specs.declared.fault.PairFault.{PairFault}
+use Rattle.nets.specs.declared.fault.Limit.{Limit}
+use Rattle.nets.specs.declared.fault.Limit.TheVariants.{Loops, Places}
 use Rattle.nets.specs.declared.table.Table.{Table}
 use Rattle.nets.specs.Meaning.{content, arity_at, net}
 use Rattle.nets.specs.Rewrites.{Face, ports_at, pair, LoopsFree}
-use Rattle.nets.specs.ByBook.{At, Ready, PairAllowed, Against}
-use Rattle.nets.specs.Seating.{RuleReady, RuleChecked, RoomFor, Replaceable}
+use Rattle.nets.specs.ByBook.{At, Ready, PairCause, PairAllowed, Against}
+use Rattle.nets.specs.Seating.{RuleReady, RuleChecked, RoomFor, Limiting, to_pair_fault, Replaceable}
 use Rattle.nets.proofs.Standing.{kind_some, some_kind, some_arity, there_port}
 use Rattle.nets.proofs.Standing as standing
 use Rattle.nets.proofs.Finishing.{p_on, q_on, depicted_fits}
@@ -46,7 +49,7 @@ one_rule K laws i j v w ev ew a b mv mw =
         (omega arith, omega arith)
 
 -- a pair that faces, by the numbers that the code reads
-module _ (K : RuleBook) (laws : Laws K) (t : Table) (p q : ℕ) (F : Face (net t) p q) (a b : ℕ) (ea : a ≡ get_or (vec_items t.kinds) p 0) (eb : b ≡ get_or (vec_items t.kinds) q 0) where
+module _ (K : RuleBook) (laws : Laws K) (t : Table) (p q : ℕ) (F : Face (net t) p q) (a b : ℕ) (ea : a ≡ get_or (kinds (vec_items t.places)) p 0) (eb : b ≡ get_or (kinds (vec_items t.places)) q 0) where
   kind_p : (net t).kind p ≡ Some a
   kind_p = some_kind (content t) p (p_on t p q F) ∙ ap (λ (v : ℕ). Some v) (sym ea)
 
@@ -129,6 +132,11 @@ module _ (K : RuleBook) (laws : Laws K) (t : Table) (p q : ℕ) (r : RuleTable) 
         loops = l.0;
         places = l.1;
       }
+
+  -- the limit that is against it
+  pub limited : (l : Limit) → Limiting t (length r.cells.now) (Err l) → PairCause K t p q (to_pair_fault l)
+  limited Loops h = (P, (refl, refl), C.ready, h)
+  limited Places h = (P, (refl, refl), C.ready, h.0, λ f. h.1 (let e = cells_same K r C.rule C.depicts in omega arith))
 
   -- a pair that is active there is this one
   pub same_pair : (Q : Pair) → At p q Q → Active K (net t) Q → pair p q C.position C.rule ≡ Q

@@ -26,13 +26,13 @@ use Rattle.nets.specs.declared.link.Link.{Link}
 use Rattle.nets.specs.Layout.{decode, bit}
 use Rattle.nets.specs.Meaning.{Content, mate_of}
 use Rattle.nets.specs.ByBook.{seat}
-use Rattle.nets.specs.Rewiring.{Shows, renamed, Places, Room, Laid, Strung, Cleared}
+use Rattle.nets.specs.Rewiring.{Shows, renamed, Places, Room, Laid, Strung}
 use Rattle.nets.specs.Inner.{there}
 use Rattle.nets.proofs.Standing.{either, mate_there, mate_absent, is_there, port_there, there_port, end_there, there_end}
 use Rattle.nets.proofs.Slots.{same_live}
 use Rattle.nets.proofs.Splicing.{closed}
 use Rattle.nets.proofs.Renaming.{swaps, swaps_else, swaps_new, swaps_twice, move_twice, renamed_mutual, renamed_same}
-use Rattle.nets.proofs.Altering.{cleared}
+use Rattle.nets.proofs.Altering.{ClearedIf, cleared}
 use Rattle.nets.proofs.Besides.{gate, stands}
 
 -- the net of a table with other kinds
@@ -134,8 +134,8 @@ pub record Relinked (c : Content) (p q n : ℕ) (ws : List (Rattle.calculus.spec
   pub low : ℕ
   pub i : ℕ
   pub j : ℕ
-  pub top_clear : Cleared c.links p u (get_or c.arities p 0) bp us top
-  pub low_clear : Cleared us q v (get_or c.arities q 0) bq vs low
+  pub top_clear : ClearedIf c.links p u (get_or c.arities p 0) bp us top
+  pub low_clear : ClearedIf us q v (get_or c.arities q 0) bq vs low
   pub laid_in : Laid vs ws ps xs
   pub left : Strung xs top 1028 (get_or c.arities p 0) ys i
   pub right : Strung ys low 1029 (get_or c.arities q 0) zs j
@@ -319,8 +319,8 @@ module _ (K : RuleBook) (laws : Laws K) (c : Content) (S : Sound c) (kd : ℕ �
       (λ j x y. m₁_live (port q j) (λ e. pq (sym (cc))) (λ e. let z : j ≡ 0 = cc in omega arith) (lq j y))
       (λ j h. row_q j (m₁_was (port q j) h).2)
       f ff bp bq other T.row_p T.row_q c.links W.us W.vs W.top W.low
-      (subst (λ (k : ℕ). Cleared c.links p u k bp W.us W.top) ea W.top_clear)
-      (subst (λ (k : ℕ). Cleared W.us q v k bq W.vs W.low) eb W.low_clear)
+      (subst (λ (k : ℕ). ClearedIf c.links p u k bp W.us W.top) ea W.top_clear)
+      (subst (λ (k : ℕ). ClearedIf W.us q v k bq W.vs W.low) eb W.low_clear)
       (closed c.links (mate_of c) S.twice S.shown (port p 0) (port q 0) p0q0 (lp 0 (omega arith)) (lq 0 (omega arith)) act.facing).0
 
   T₁ : Strung W.xs (swaps (seat ps) n P.left) 1028 (ports K P.rule.left) W.ys W.i

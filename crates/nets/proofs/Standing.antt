@@ -5,7 +5,7 @@ use Rattle.calculus.specs.Books.{RuleBook}
 use Rattle.calculus.specs.Nets.{Stands, Good}
 use Rattle.nets.specs.declared.spot.Spot.{Spot as Seen}
 use Rattle.nets.specs.declared.table.Table.{Table}
-use Rattle.nets.specs.Layout.{slots, code, decode, is_of_end, goal, bit, is_used}
+use Rattle.nets.specs.Layout.{kinds, arities, slots, code, decode, is_of_end, goal, bit, is_used}
 use Rattle.nets.specs.Meaning.{Content, content, kind_at, arity_at, mate_of, net, OfBook}
 use Rattle.nets.specs.Views.{at, Mated}
 use Rattle.nets.specs.Inner.{there}
@@ -114,7 +114,7 @@ module _ (t : Table) where
       let b = bit_low t.occupied r t.wide a.0 in
       (omega arith, omega (arith, a.1, t.ports r))
 
-  slot_in_use : (x : Spot) → there (content t) x ≡ true → is_used (vec_items t.arities) t.occupied t.ends (code x) ≡ true
+  slot_in_use : (x : Spot) → there (content t) x ≡ true → is_used (arities (vec_items t.places)) t.occupied t.ends (code x) ≡ true
   slot_in_use x h = sym (at_slot C (code x)) ∙ ap (there C) (decode_code x (drawn x h)) ∙ h
 
   pub mate_stands : (x : Spot) → there (content t) x ≡ true → there (content t) (mate_of (content t) x) ≡ true
@@ -138,14 +138,14 @@ module _ (t : Table) where
       t.other (code x) (slot_in_use x h) (sym (code_decode (goal (vec_items t.links.targets) (code x))) ∙ ap code (sym (mate_there C x h) ∙ e))
 
   module _ (K : RuleBook) (B : OfBook K t) where
-    arity_is : (r k : ℕ) → (net t).kind r ≡ Some k → K.arity k ≡ Some (get_or (vec_items t.arities) r 0)
+    arity_is : (r k : ℕ) → (net t).kind r ≡ Some k → K.arity k ≡ Some (get_or (arities (vec_items t.places)) r 0)
     arity_is r k e = B r k e ∙ some_arity C r (kind_some C r k e).0
 
     stands_there : (x : Spot) → Stands K (net t) x → there (content t) x ≡ true
     stands_there (end e) h = there_end C e h
     stands_there (port r j) (k, e, (a, f, h)) =
-        let z : Some a ≡ Some (get_or (vec_items t.arities) r 0) = sym f ∙ arity_is r k e in
-        let y : a ≡ get_or (vec_items t.arities) r 0 = cc in
+        let z : Some a ≡ Some (get_or (arities (vec_items t.places)) r 0) = sym f ∙ arity_is r k e in
+        let y : a ≡ get_or (arities (vec_items t.places)) r 0 = cc in
         there_port C r j (kind_some C r k e).0 (omega arith)
 
     there_stands : (x : Spot) → there (content t) x ≡ true → Stands K (net t) x
@@ -153,13 +153,13 @@ module _ (t : Table) where
     there_stands (port r j) h =
         let a = port_there C r j h in
         let e = some_kind C r a.0 in
-        (get_or (vec_items t.kinds) r 0, e, (get_or (vec_items t.arities) r 0, arity_is r (get_or (vec_items t.kinds) r 0) e, a.1))
+        (get_or (kinds (vec_items t.places)) r 0, e, (get_or (arities (vec_items t.places)) r 0, arity_is r (get_or (kinds (vec_items t.places)) r 0) e, a.1))
 
     -- a table of the book holds a net of the book
     pub good : Good K (net t)
     good = record {
       finite = (1024, λ r k e. bit_low t.occupied r t.wide (kind_some C r k e).0);
-      known = λ r k e. (get_or (vec_items t.arities) r 0, arity_is r k e, omega arith);
+      known = λ r k e. (get_or (arities (vec_items t.places)) r 0, arity_is r k e, omega arith);
       twice = twice;
       linked = λ x h. apart x (stands_there x h);
       there = λ x h. there_stands x (is_there C x h);

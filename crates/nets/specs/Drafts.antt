@@ -1,10 +1,10 @@
 -- Tables in the making: cells in places 0, 1, 2 and on, and links as they are named, mutual or not. Assumes nothing.
-use Rattle.std.specs.Prelude.{◌≡◌, ℕ, ◌+◌, ◌-◌, ◌^◌, ◌<◌, min, Bool, true, false, cond, ◌&&◌, ◌≢◌, ◌⊎◌, Some, None, Ok, Err, vec_items, Result, nat_le, nat_lt, slice_index}
+use Rattle.std.specs.Prelude.{◌≡◌, ℕ, ◌+◌, ◌-◌, ◌^◌, ◌<◌, min, Bool, true, false, cond, ◌&&◌, ◌≢◌, ◌⊎◌, Some, None, Ok, Err, vec_items, Result, nat_le, nat_lt, slice_index_or}
 use Rattle.calculus.specs.Spots.{Spot, end, port}
 use Rattle.nets.specs.declared.draft.Draft.{Draft}
 use Rattle.nets.specs.declared.spot.Spot.{Spot as Seen}
 use Rattle.nets.specs.declared.table.Table.{Table}
-use Rattle.nets.specs.Layout.{code, decode, goal}
+use Rattle.nets.specs.Layout.{blank, code, decode, goal}
 use Rattle.nets.specs.Meaning.{net, content, arity_at}
 use Rattle.nets.specs.Views.{at}
 
@@ -22,8 +22,8 @@ plan d = record {
   ends = d.ends;
   loops = d.loops;
   cells = d.cells;
-  kind = λ r. slice_index (vec_items d.kinds) r;
-  arity = λ r. slice_index (vec_items d.arities) r;
+  kind = λ r. (slice_index_or (vec_items d.places) r blank).kind;
+  arity = λ r. (slice_index_or (vec_items d.places) r blank).arity;
   link = λ x. decode (goal (vec_items d.links.targets) (code x));
 }
 

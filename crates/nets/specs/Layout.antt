@@ -1,6 +1,7 @@
 -- Where each spot of a net stands in a table, and what its slots keep. Assumes nothing.
-use Rattle.std.specs.Prelude.{◌≡◌, ℕ, ◌+◌, ◌-◌, ◌*◌, ◌/◌, ◌%◌, ◌^◌, Bool, true, cond, ◌&&◌, List, ◌==◌, ◌≢◌, nat_le, nat_lt, slice_index, slice_index_or}
+use Rattle.std.specs.Prelude.{◌≡◌, ℕ, ◌+◌, ◌-◌, ◌*◌, ◌/◌, ◌%◌, ◌^◌, Bool, true, cond, ◌&&◌, List, map, ◌==◌, ◌≢◌, nat_le, nat_lt, slice_index, slice_index_or}
 use Rattle.calculus.specs.Spots.{Spot, end, port}
+use Rattle.books.specs.declared.table.Cell.{Cell}
 use Rattle.nets.specs.declared.link.Link.{Link}
 
 -- how many slots there are: four a row, in 1,024 rows for cells, 6 for scratch and 64 for ends
@@ -23,17 +24,23 @@ decode k = cond (is_of_end k) (end (k / 4 - 1030)) (port (k / 4) (k % 4))
 abbrev pub slot_of : Link → ℕ
 slot_of l = l.row * 4 + l.port
 
--- the row and port of a spot
-abbrev pub link_of : Spot → Link
-link_of (end e) = record { row = 1030 + e; port = 0 }
-link_of (port r j) = record { row = r; port = j }
-
 abbrev pub nil : Link
 nil = record { row = 0; port = 0 }
 
 -- the slot that slot k is linked with
 abbrev pub goal : List Link → ℕ → ℕ
 goal links k = slot_of (slice_index_or links k nil)
+
+-- the cell that a place of a new table has, and does not show
+abbrev pub blank : Cell
+blank = record { kind = 0; arity = 0 }
+
+-- kind and arity by place
+abbrev pub kinds : List Cell → List ℕ
+kinds cells = map (λ c. c.kind) cells
+
+abbrev pub arities : List Cell → List ℕ
+arities cells = map (λ c. c.arity) cells
 
 -- 1 if a cell stands in the place r, else 0: bit r % 8 of byte r / 8
 abbrev pub bit : List ℕ → ℕ → ℕ

@@ -5,7 +5,7 @@ use Rattle.calculus.specs.Books.{RuleBook}
 use Rattle.calculus.specs.Nets.{Net}
 use Rattle.nets.specs.declared.link.Link.{Link}
 use Rattle.nets.specs.declared.table.Table.{Table}
-use Rattle.nets.specs.Layout.{code, decode, goal, bit, stands}
+use Rattle.nets.specs.Layout.{kinds, arities, code, decode, goal, bit, stands}
 
 -- what the fields of a table hold
 pub record Content : Type 0 where
@@ -19,8 +19,8 @@ pub record Content : Type 0 where
 abbrev pub content : Table → Content
 content t = record {
   links = vec_items t.links.targets;
-  kinds = vec_items t.kinds;
-  arities = vec_items t.arities;
+  kinds = kinds (vec_items t.places);
+  arities = arities (vec_items t.places);
   occupied = t.occupied;
   ends = t.ends;
   loops = t.loops;

@@ -1,12 +1,13 @@
 -- What the private functions of the rewrite tell each other of the links; no public contract cites it. Assumes nothing.
-use Rattle.std.specs.Prelude.{◌≡◌, ℕ, ◌+◌, ◌*◌, ◌<◌, ◌≤◌, Bool, true, false, cond, ◌≢◌, List, length, ◌==◌, nat_lt, slice_index}
+use Rattle.std.specs.Prelude.{◌≡◌, ℕ, ◌+◌, ◌*◌, ◌<◌, ◌≤◌, cond, ◌≢◌, List, length, ◌==◌, nat_lt, slice_index_or, Some, None, Option}
 use Rattle.calculus.specs.Spots.{Spot, end, port, carry}
 use Rattle.calculus.specs.Books.{RulePort, L, R, N, Wired}
 use Rattle.calculus.specs.Splicing.{through, closes, Ready}
 use Rattle.calculus.proofs.Wires.{run, tally}
 use Rattle.calculus.proofs.Plugs.{wires}
+use Rattle.books.specs.declared.table.Cell.{Cell}
 use Rattle.nets.specs.declared.link.Link.{Link}
-use Rattle.nets.specs.Layout.{code, decode, slots, goal}
+use Rattle.nets.specs.Layout.{blank, code, decode, slots, goal}
 use Rattle.nets.specs.Noting.{Tied}
 use Rattle.nets.specs.ByBook.{seat}
 
@@ -52,11 +53,11 @@ pub record Parked (xs : List Link) (p t n : ℕ) (ys : List Link) : Type 0 where
   pub shows : (m : Spot → Spot) → ((z : Spot) → m (m z) ≡ z) → ((j : ℕ) → m (port t j) ≡ port t j) → ((j : ℕ) → 1 ≤ j → j ≤ n → m (port p j) ≢ port p j) →
       Shows xs (under (part n p t) m) → Shows ys (under (part 0 p t) m)
 
--- row p made free for a new cell if that is needed: its ports then stand in row t, else where they stood; r is the row where they stand
-pub record Cleared (xs : List Link) (p t n : ℕ) (b : Bool) (ys : List Link) (r : ℕ) : Type 0 where
+-- row p made free where a spare row is given: its ports then stand there, else where they stood; r is the row where they stand
+pub record Cleared (xs : List Link) (p : ℕ) (spare : Option ℕ) (n : ℕ) (ys : List Link) (r : ℕ) : Type 0 where
   pub small : r < 1030
-  pub moved : b ≡ true → (r ≡ t) × Parked xs p t n ys
-  pub stayed : b ≡ false → (r ≡ p) × (ys ≡ xs)
+  pub moved : (t : ℕ) → spare ≡ Some t → (r ≡ t) × Parked xs p t n ys
+  pub stayed : spare ≡ None → (r ≡ p) × (ys ≡ xs)
 
 -- the row of a rule's port: the gates of L and R, and new cell i where place i of ps is
 abbrev pub row_of : List ℕ → RulePort → ℕ
@@ -102,8 +103,8 @@ pub record Places (pl : ℕ → ℕ) (n : ℕ) : Type 0 where
   pub low : (i : ℕ) → i < n → pl i < 1024
   pub apart : (i j : ℕ) → i < n → j < n → pl i ≡ pl j → i ≡ j
 
--- the first n values stand at the first n of ps
-pub record Filled (xs values : List ℕ) (n : ℕ) (ps : List ℕ) (ys : List ℕ) : Type 0 where
+-- the first n cells stand at the first n of ps
+pub record Filled (xs cells : List Cell) (n : ℕ) (ps : List ℕ) (ys : List Cell) : Type 0 where
   pub long : length ys ≡ length xs
-  pub new : (i : ℕ) → i < n → slice_index ys (seat ps i) ≡ slice_index values i
-  pub other : (k : ℕ) → ((i : ℕ) → i < n → k ≢ seat ps i) → slice_index ys k ≡ slice_index xs k
+  pub new : (i : ℕ) → i < n → slice_index_or ys (seat ps i) blank ≡ slice_index_or cells i blank
+  pub other : (k : ℕ) → ((i : ℕ) → i < n → k ≢ seat ps i) → slice_index_or ys k blank ≡ slice_index_or xs k blank

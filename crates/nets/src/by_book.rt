@@ -53,16 +53,18 @@ impl Table {
         if !self.are_facing(left, right) {
             return None;
         }
-        let (p, q) = (left as usize, right as usize);
-        let (first, second) = (self.kinds[p], self.kinds[q]);
-        let rule = book.rule(first, second)?;
-        if rule.left != first || rule.right != second || (first == second && right < left) {
+        let (first, second) = (self.places[left as usize], self.places[right as usize]);
+        let rule = book.rule(first.kind, second.kind)?;
+        if rule.left != first.kind
+            || rule.right != second.kind
+            || (first.kind == second.kind && right < left)
+        {
             return None;
         }
-        if book.arity(first) != Some(self.arities[p]) {
+        if book.arity(first.kind) != Some(first.arity) {
             return None;
         }
-        if book.arity(second) != Some(self.arities[q]) {
+        if book.arity(second.kind) != Some(second.arity) {
             return None;
         }
         Some(rule)

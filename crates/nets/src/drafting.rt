@@ -3,13 +3,15 @@ ghost use Rattle.std.specs.Prelude.{◌≡◌, ℕ, ◌+◌, ◌*◌, ◌/◌, �
 ghost use Rattle.nets.specs.Layout.{slots, decode, goal};
 ghost use Rattle.nets.specs.Views.{at};
 ghost use Rattle.nets.specs.Drafts.{plan, planned, nameable, Begun, CellAdded, LinkNamed, Attempt, Sealing};
-ghost use Rattle.nets.specs.Inner.{Searched, SearchedCell, Tested, Front};
+ghost use Rattle.nets.specs.Inner.{Checked, CheckedCell, CheckedSpot, Front};
 
 use crate::draft::Draft;
 use crate::links::Links;
 use crate::spot::Spot;
 use crate::table::Table;
+use books::table::Cell;
 use std::alloc::{AllocError, Global};
+use std::array;
 
 impl Draft {
     /// A draft with no cells yet; over 64 ends count as 64, over 1,073,741,823 loops as 1,073,741,823.
@@ -17,12 +19,10 @@ impl Draft {
         ensures { IfOk result (λ d. Begun ends loops (plan d)) }
     {
         let links = Links::new(heap)?;
-        let kinds = vec![in heap; 0u8; 1024]?;
-        let arities = vec![in heap; 0u8; 1024]?;
+        let places = vec![in heap; Cell { kind: 0, arity: 0 }; 1024]?;
         Ok(Draft {
             links,
-            kinds,
-            arities,
+            places,
             cells: 0,
             ends: ends.min(64),
             loops: loops.min(1073741823),
@@ -36,9 +36,7 @@ impl Draft {
         if self.cells >= 1024 || arity > 2 {
             return false;
         }
-        let place = self.cells as usize;
-        self.kinds[place] = kind;
-        self.arities[place] = arity;
+        self.places[self.cells as usize] = Cell { kind, arity };
         self.cells += 1;
         true
     }
@@ -60,7 +58,7 @@ impl Draft {
     {
         match spot {
             Spot::End(e) => e < self.ends as u16,
-            Spot::Port(r, j) => r < self.cells && j <= self.arities[r as usize],
+            Spot::Port(r, j) => r < self.cells && j <= self.places[r as usize].arity,
         }
     }
 }
@@ -80,70 +78,57 @@ impl Draft {
     pub fn seal(self) -> Result<Table, Spot>
         ensures { Sealing (plan self) result }
     {
-        match self.first_fault() {
-            Some(spot) => Err(spot),
-            None => {
-                let Draft {
-                    links,
-                    kinds,
-                    arities,
-                    cells,
-                    ends,
-                    loops,
-                } = self;
-                Ok(Table {
-                    links,
-                    kinds,
-                    arities,
-                    occupied: front(cells),
-                    ends,
-                    loops,
-                })
-            }
-        }
+        self.check()?;
+        let Draft {
+            links,
+            places,
+            cells,
+            ends,
+            loops,
+        } = self;
+        Ok(Table {
+            links,
+            places,
+            occupied: front(cells),
+            ends,
+            loops,
+        })
     }
 
-    // The first spot whose link is at fault.
-    fn first_fault(&self) -> Option<Spot>
-        ensures { Searched (plan self.now) result }
+    // Refuses the first spot whose link is at fault.
+    fn check(&self) -> Result<(), Spot>
+        ensures { Checked (plan self.now) result }
     {
         for e in 0..self.ends as u16 {
-            if self.is_faulty(Spot::End(e)) {
-                return Some(Spot::End(e));
-            }
+            self.check_spot(Spot::End(e))?;
         }
         for place in 0..self.cells {
-            if let Some(spot) = self.fault_of(place) {
-                return Some(spot);
-            }
+            self.check_cell(place)?;
         }
-        None
+        Ok(())
     }
 
-    // The first port of a cell whose link is at fault.
-    fn fault_of(&self, place: u16) -> Option<Spot>
+    // Refuses the first port of a cell whose link is at fault.
+    fn check_cell(&self, place: u16) -> Result<(), Spot>
         requires { place < self.now.cells }
-        ensures { SearchedCell (plan self.now) place result }
+        ensures { CheckedCell (plan self.now) place result }
     {
-        for port in 0..3u8 {
-            let spot = Spot::Port(place, port);
-            if !self.has(spot) {
-                break;
-            }
-            if self.is_faulty(spot) {
-                return Some(spot);
-            }
+        for port in 0..=self.places[place as usize].arity {
+            self.check_spot(Spot::Port(place, port))?;
         }
-        None
+        Ok(())
     }
 
-    // Whether the link of a spot names itself, or what is not there, or what does not name it back.
-    fn is_faulty(&self, spot: Spot) -> bool
+    // Refuses a spot whose link names itself, or what is not there, or what does not name it back.
+    fn check_spot(&self, spot: Spot) -> Result<(), Spot>
         requires { planned (plan self.now) (at spot) ≡ true }
-        ensures { Tested (plan self.now) (at spot) result }
+        ensures { CheckedSpot (plan self.now) (at spot) result }
     {
         let mate = self.links.mate(spot);
-        mate == spot || !self.has(mate) || self.links.mate(mate) != spot
+        if mate == spot || !self.has(mate) || self.links.mate(mate) != spot {
+            return Err(spot);
+        }
+        Ok(())
     }
 }
 
@@ -152,11 +137,7 @@ fn front(cells: u16) -> [u8; 128]
     requires { cells ≤ 1024 }
     ensures { Front cells result }
 {
-    let mut map = [0u8; 128];
-    for i in 0..128usize {
-        map[i] = front_byte(cells, i);
-    }
-    map
+    array::from_fn(|i| front_byte(cells, i))
 }
 
 // Byte i of that map.

@@ -5,7 +5,7 @@ ghost use Rattle.books.specs.Tables.{port_of, wires_of};
 ghost use Rattle.nets.specs.Fitting.{Paired, Fitting, Told};
 ghost use Rattle.nets.specs.Noting.{Noted, Marked, AllNoted, Full, FullRow, Small, note_of};
 
-use books::table::{NewCell, RulePort, RuleTable, Wire};
+use books::table::{Cell, RulePort, RuleTable, Wire};
 
 // Whether the rule fits an L of arity `left` and an R of arity `right`.
 pub(crate) fn fits(rule: &RuleTable, left: u8, right: u8) -> bool
@@ -21,7 +21,7 @@ pub(crate) fn fits(rule: &RuleTable, left: u8, right: u8) -> bool
 }
 
 // Whether the cells have arity at most 2.
-fn are_small(cells: &[NewCell]) -> bool
+fn are_small(cells: &[Cell]) -> bool
     ensures { result ≡ list_all (λ c. nat_le c.arity 2) cells.now }
 {
     cells.iter().all(|cell| cell.arity <= 2)

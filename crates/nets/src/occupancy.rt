@@ -17,9 +17,5 @@ pub fn count_set(map: &[u8; 128]) -> u16
     ensures bits { result ≡ sum_by count_ones map.now }
     ensures cells { (c : Content) → c.occupied ≡ map.now → result ≡ cells_below (net_of c) 1024 }
 {
-    let mut n: u16 = 0;
-    for byte in map {
-        n += byte.count_ones() as u16;
-    }
-    n
+    map.iter().map(|byte| byte.count_ones() as u16).sum()
 }

@@ -67,11 +67,11 @@ impl Table {
         requires { Face (net self.now) left right }
         ensures { Told (Suits self.now left right rule.now) result }
     {
-        let (p, q) = (left as usize, right as usize);
-        if self.kinds[p] != rule.left || self.kinds[q] != rule.right {
+        let (first, second) = (self.places[left as usize], self.places[right as usize]);
+        if first.kind != rule.left || second.kind != rule.right {
             return false;
         }
-        fits(rule, self.arities[p], self.arities[q])
+        fits(rule, first.arity, second.arity)
     }
 
     // The pair replaced by the rule's right side: its auxiliary ports parked where new cells take its places, the rule's wires laid, each port spliced with its gate.
@@ -80,17 +80,21 @@ impl Table {
         requires { Replaceable self.old left right rule.now }
         ensures { Replaced self.old left right rule.now result self.new }
     {
-        let a = self.arities[left as usize];
-        let b = self.arities[right as usize];
+        let a = self.places[left as usize].arity;
+        let b = self.places[right as usize].arity;
         let cells = rule.cells.len() as u16;
         let turn = order(left, right);
         let places = take_places(&mut self.occupied, left, right, rule.cells.len());
-        let top = self.links.clear(left, 1024 + turn, a, turn < cells);
-        let low = self.links.clear(right, 1025 - turn, b, 1 - turn < cells);
+        let top = self
+            .links
+            .clear(left, (turn < cells).then_some(1024 + turn), a);
+        let low = self
+            .links
+            .clear(right, (1 - turn < cells).then_some(1025 - turn), b);
         lay(&mut self.links, rule, &places);
         let first = self.links.splice_rows(top, 1028, a);
         let second = self.links.splice_rows(low, 1029, b);
-        fill(&mut self.kinds, &mut self.arities, rule.cells, &places);
+        fill(&mut self.places, rule.cells, &places);
         self.loops = self.loops + first + second;
         places
     }

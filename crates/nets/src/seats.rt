@@ -1,10 +1,10 @@
 // Where the new cells of a rewrite stand.
-ghost use Rattle.std.specs.Prelude.{◌≡◌, ◌+◌, ◌<◌, ◌≤◌, true, map, length, vec_len};
+ghost use Rattle.std.specs.Prelude.{◌≡◌, ◌+◌, ◌<◌, ◌≤◌, true, length, vec_len};
 ghost use Rattle.nets.specs.ByBook.{seat};
 ghost use Rattle.nets.specs.Rewiring.{Places, Filled};
 ghost use Rattle.nets.specs.Seating.{bits_below, Flipped, Highest, Taken, Seated};
 
-use books::table::NewCell;
+use books::table::Cell;
 
 // The places of the new cells, which are marked as occupied; the pair's places that no new cell takes are marked as vacant.
 pub(crate) fn take_places(map: &mut [u8; 128], left: u16, right: u16, cells: usize) -> [u16; 4]
@@ -63,16 +63,14 @@ fn highest_vacant(map: &[u8; 128]) -> Option<u16>
     None
 }
 
-// Writes kinds and arities of the new cells at their places.
-pub(crate) fn fill(kinds: &mut Vec<u8>, arities: &mut Vec<u8>, cells: &[NewCell], places: &[u16; 4])
-    requires long { (vec_len kinds.old ≡ 1024) × (vec_len arities.old ≡ 1024) }
-    requires few { length cells.now ≤ 4 }
-    requires places { Places (seat places.now) (length cells.now) }
-    ensures kinds { Filled kinds.old.items (map (λ c. c.kind) cells.now) (length cells.now) places.now kinds.new.items }
-    ensures arities { Filled arities.old.items (map (λ c. c.arity) cells.now) (length cells.now) places.now arities.new.items }
+// Writes the new cells at their places.
+pub(crate) fn fill(cells: &mut Vec<Cell>, new: &[Cell], places: &[u16; 4])
+    requires long { vec_len cells.old ≡ 1024 }
+    requires few { length new.now ≤ 4 }
+    requires places { Places (seat places.now) (length new.now) }
+    ensures { Filled cells.old.items new.now (length new.now) places.now cells.new.items }
 {
-    for (cell, place) in cells.iter().zip(places) {
-        kinds[*place as usize] = cell.kind;
-        arities[*place as usize] = cell.arity;
+    for (cell, place) in new.iter().zip(places) {
+        cells[*place as usize] = *cell;
     }
 }

@@ -1,5 +1,5 @@
 // Splices in the links of a table, and rows moved out of the way.
-ghost use Rattle.std.specs.Prelude.{◌<◌, ◌≢◌};
+ghost use Rattle.std.specs.Prelude.{◌<◌, ◌≢◌, IfSome};
 ghost use Rattle.nets.specs.Layout.{slot_of, slots};
 ghost use Rattle.nets.specs.Rewiring.{Spliced, Strung, Parked, Cleared};
 
@@ -51,19 +51,17 @@ impl Links {
         }
     }
 
-    // Makes row p free if that is needed, its ports moved to row t; answers where they stand.
-    pub(crate) fn clear(&mut self, p: u16, t: u16, n: u8, needed: bool) -> u16
+    // Makes row p free where a spare row is given, its ports moved to that; answers where they stand.
+    pub(crate) fn clear(&mut self, p: u16, spare: Option<u16>, n: u8) -> u16
         requires first { p < 1030 }
-        requires second { t < 1030 }
-        requires apart { p ≢ t }
+        requires second { IfSome spare (λ t. (t < 1030) × (p ≢ t)) }
         requires ports { n < 3 }
-        ensures { Cleared self.old.targets.items p t n needed self.new.targets.items result }
+        ensures { Cleared self.old.targets.items p spare n self.new.targets.items result }
     {
-        if needed {
-            self.park(p, t, n);
-            t
-        } else {
-            p
-        }
+        let Some(t) = spare else {
+            return p;
+        };
+        self.park(p, t, n);
+        t
     }
 }

@@ -1,6 +1,6 @@
 // The spots of a net.
-ghost use Rattle.std.specs.Prelude.{◌≡◌, ◌^◌, ◌<◌};
-ghost use Rattle.nets.specs.Layout.{code, link_of};
+ghost use Rattle.std.specs.Prelude.{◌≡◌, ◌<◌};
+ghost use Rattle.nets.specs.Layout.{slots, slot_of, code};
 ghost use Rattle.nets.specs.Views.{at};
 
 use crate::link::Link;
@@ -13,10 +13,10 @@ pub enum Spot {
 }
 
 impl Spot {
-    /// The link that names it.
-    pub fn link(self) -> Link
-        requires { code (at self) < 2 ^ 18 }
-        ensures { result ≡ link_of (at self) }
+    // The link that names it.
+    pub(crate) fn link(self) -> Link
+        requires { code (at self) < slots }
+        ensures { slot_of result ≡ code (at self) }
     {
         match self {
             Spot::End(e) => Link {

@@ -35,14 +35,14 @@ impl Table {
     pub fn kind(&self, place: u16) -> Option<u8>
         ensures { result ≡ (net self.now).kind place }
     {
-        is_occupied(&self.occupied, place).then(|| self.kinds[place as usize])
+        is_occupied(&self.occupied, place).then(|| self.places[place as usize].kind)
     }
 
     /// The arity of the cell in a place, if one stands there.
     pub fn arity(&self, place: u16) -> Option<u8>
         ensures { result ≡ arity_at (content self.now) place }
     {
-        is_occupied(&self.occupied, place).then(|| self.arities[place as usize])
+        is_occupied(&self.occupied, place).then(|| self.places[place as usize].arity)
     }
 
     /// What a spot is linked with, if it is there.
@@ -58,7 +58,8 @@ impl Table {
     {
         match spot {
             Spot::End(e) => e < self.ends as u16,
-            Spot::Port(r, j) => is_occupied(&self.occupied, r) && j <= self.arities[r as usize],
+            Spot::Port(r, j) => is_occupied(&self.occupied, r)
+                && j <= self.places[r as usize].arity,
         }
     }
 }

@@ -1,7 +1,7 @@
 use Rattle.std.proofs.Common.{◌≡◌, ℕ, ◌≤◌, get_or, sym, subst, below_more, arith}
 use lib.ListN.{get_or-map}
 use Rattle.calculus.specs.Books.{L, R}
-use Rattle.books.specs.declared.table.NewCell.{NewCell}
+use Rattle.books.specs.declared.table.Cell.{Cell}
 use Rattle.books.specs.declared.table.RuleTable.{RuleTable}
 use Rattle.books.specs.Tables.{arities_of}
 use Rattle.nets.specs.Noting.{Full, FullRow}
@@ -10,7 +10,7 @@ use Rattle.nets.proofs.fitting.Trial.is_full.Goals as goal
 
 -- the arity of new cell i
 arity_read : (r : RuleTable) (i : ℕ) → get_or (arities_of r) i 0 ≡ (get_or r.cells.now i (record { kind = 0; arity = 0 })).arity
-arity_read r i = get_or-map (λ (c : NewCell). c.arity) r.cells.now i (record { kind = 0; arity = 0 })
+arity_read r i = get_or-map (λ (c : Cell). c.arity) r.cells.now i (record { kind = 0; arity = 0 })
 
 pub is_row_full-requires-clause-ports : goal.is_row_full-requires-clause-ports
 is_row_full-requires-clause-ports c =

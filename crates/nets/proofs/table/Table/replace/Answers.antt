@@ -1,20 +1,23 @@
-use Rattle.std.proofs.Common.{ℕ, ◌+◌, ◌<◌, ◌≤◌, length, vec_items, refl, ◌∙◌, arith}
+use Rattle.std.proofs.Common.{◌+◌, ◌-◌, ◌<◌, ◌≤◌, ltb, ◌≢◌, length, vec_items, refl, ◌∙◌, arith}
+use Rattle.nets.specs.Layout.{kinds, arities}
 use Rattle.nets.specs.Meaning.{Content, content}
 use Rattle.nets.specs.Rewiring.{Places}
 use Rattle.nets.specs.ByBook.{seat}
 use Rattle.nets.specs.Rewrites.{ports_at}
 use Rattle.nets.proofs.Counting.{cells_are}
 use Rattle.nets.proofs.Seatings.{turn_small, places}
+use Rattle.nets.proofs.Altering.{cleared_if, if_spare}
+use Rattle.nets.proofs.Filling.{listed_kinds, listed_arities}
 use Rattle.nets.proofs.Finishing.{Did, relinked_of, downwards, p_on, q_on, p_low, q_low, room_of, few_loops, slots_other, slots_standing, slots_back, few_ports, map_long, rewriting_K, of_book_K, seats_K}
-use Rattle.nets.proofs.Indexing.{q_arities, p_arity, q_arity, p_few, q_few}
+use Rattle.nets.proofs.Indexing.{p_place, q_place, p_arity, q_arity, p_few, q_few}
 use Rattle.nets.proofs.table.Table.replace.Goals as goal
 use Rattle.nets.proofs.table.Table.replace.Goals.{After-take_places-places, After-fill}
 
-few : (x : ℕ) → x ≤ 2 → x < 3
-few x h = omega arith
+pub index-requires : goal.index-requires
+index-requires c = p_place c.args.self.now c.args.left c.args.right c.requires.facing
 
-pub index-b-requires : goal.index-b-requires
-index-b-requires c = q_arities c.args.self.now c.args.left c.args.right c.requires.facing
+pub index-requires-2 : goal.index-requires-2
+index-requires-2 c = q_place c.args.self.now c.args.left c.args.right c.requires.facing
 
 pub take_places-places-requires : goal.take_places-places-requires
 take_places-places-requires c =
@@ -29,25 +32,19 @@ take_places-places-requires c =
 
 pub clear-top-requires : goal.clear-top-requires
 clear-top-requires c =
-    let h = p_low c.args.self.now c.args.left c.args.right c.requires.facing in
+    let s = c.args.self.now in
+    let h = p_low s c.args.left c.args.right c.requires.facing in
     let t : c.order-turn.result ≤ 1 = omega (arith, c.order-turn.ensures, turn_small c.args.left c.args.right) in
-    record {
-      first = omega arith;
-      second = omega arith;
-      apart = λ z. omega arith;
-      ports = few c.index-a.result.now (p_few c.args.self.now c.args.left c.args.right c.requires.facing c.index-a.result.now c.index-a.ensures);
-    }
+    let e = p_arity s c.args.left c.args.right c.requires.facing c.index.result.now c.index.ensures in
+    record { first = omega arith; second = if_spare (λ t. (t < 1030) × (c.args.left ≢ t)) _ _ c.then_some.result c.then_some.ensures (omega arith, λ z. omega arith); ports = omega (arith, s.ports c.args.left) }
 
 pub clear-low-requires : goal.clear-low-requires
 clear-low-requires c =
-    let h = q_low c.args.self.now c.args.left c.args.right c.requires.facing in
+    let s = c.args.self.now in
+    let h = q_low s c.args.left c.args.right c.requires.facing in
     let t : c.order-turn.result ≤ 1 = omega (arith, c.order-turn.ensures, turn_small c.args.left c.args.right) in
-    record {
-      first = omega arith;
-      second = omega arith;
-      apart = λ z. omega arith;
-      ports = few c.index-b.result.now (q_few c.args.self.now c.args.left c.args.right c.requires.facing c.index-b.result.now c.index-b.ensures);
-    }
+    let e = q_arity s c.args.left c.args.right c.requires.facing c.index-2.result.now c.index-2.ensures in
+    record { first = omega arith; second = if_spare (λ t. (t < 1030) × (c.args.right ≢ t)) _ _ c.then_some-2.result c.then_some-2.ensures (omega arith, λ z. omega arith); ports = omega (arith, s.ports c.args.right) }
 
 -- the places of the new cells
 seats : (c : After-take_places-places) → Places (seat c.take_places-places.result) (length c.args.rule.now.cells.now)
@@ -57,6 +54,12 @@ seats c =
     (p_low c.args.self.now c.args.left c.args.right c.requires.facing) (q_low c.args.self.now c.args.left c.args.right c.requires.facing)
     (p_on c.args.self.now c.args.left c.args.right c.requires.facing) (q_on c.args.self.now c.args.left c.args.right c.requires.facing)
 
+pub splice_rows-first-requires-clause-ports : goal.splice_rows-first-requires-clause-ports
+splice_rows-first-requires-clause-ports c = omega (arith, p_few c.args.self.now c.args.left c.args.right c.requires.facing c.index.result.now c.index.ensures)
+
+pub splice_rows-second-requires-clause-ports : goal.splice_rows-second-requires-clause-ports
+splice_rows-second-requires-clause-ports c = omega (arith, q_few c.args.self.now c.args.left c.args.right c.requires.facing c.index-2.result.now c.index-2.ensures)
+
 pub lay-requires : goal.lay-requires
 lay-requires c =
     room_of (ports_at c.args.self.now c.args.left) (ports_at c.args.self.now c.args.right) c.args.rule.now c.requires.fitting
@@ -64,7 +67,7 @@ lay-requires c =
 
 pub fill-requires : goal.fill-requires
 fill-requires c = record {
-  long = (c.args.self.now.kinds.ok.0 ∙ c.args.self.now.every, c.args.self.now.arities.ok.0 ∙ c.args.self.now.all);
+  long = c.args.self.now.places.ok.0 ∙ c.args.self.now.every;
   few = c.requires.fitting.few;
   places = seats (goal.at.fill-requires c).After-take_places-places;
 }
@@ -73,28 +76,36 @@ fill-requires c = record {
 abbrev after : After-fill → Content
 after c = record {
   links = vec_items c.splice_rows-second.new.self.targets;
-  kinds = vec_items c.fill.new.kinds;
-  arities = vec_items c.fill.new.arities;
+  kinds = kinds (vec_items c.fill.new.cells);
+  arities = arities (vec_items c.fill.new.cells);
   occupied = c.take_places-places.new.map;
   ends = c.args.self.now.ends;
   loops = c.args.self.now.loops + c.splice_rows-first.result + c.splice_rows-second.result;
 }
 
 did : (c : After-fill) → Did c.args.self.now c.args.left c.args.right c.args.rule.now (after c)
-did c = record {
-  ps = c.take_places-places.result;
-  seated = c.take_places-places.ensures;
-  relinked = relinked_of c.args.self.now c.args.left c.args.right c.args.rule.now c.take_places-places.result
-      (vec_items c.clear-top.new.self.targets) (vec_items c.clear-low.new.self.targets) (vec_items c.lay.new.links.targets) (vec_items c.splice_rows-first.new.self.targets) (vec_items c.splice_rows-second.new.self.targets)
-      c.order-turn.result c.index-a.result.now c.index-b.result.now c.clear-top.result c.clear-low.result c.splice_rows-first.result c.splice_rows-second.result
-      (c.args.self.now.loops + c.splice_rows-first.result + c.splice_rows-second.result)
-      c.order-turn.ensures
-      (p_arity c.args.self.now c.args.left c.args.right c.requires.facing c.index-a.result.now c.index-a.ensures) (q_arity c.args.self.now c.args.left c.args.right c.requires.facing c.index-b.result.now c.index-b.ensures)
-      c.clear-top.ensures c.clear-low.ensures c.lay.ensures c.splice_rows-first.ensures c.splice_rows-second.ensures refl;
-  kinds = c.fill.ensures.kinds;
-  arities = c.fill.ensures.arities;
-  ends = refl;
-}
+did c =
+    let s = c.args.self.now in
+    let p = c.args.left in
+    let q = c.args.right in
+    let r = c.args.rule.now in
+    let F = c.requires.facing in
+    let ps = c.take_places-places.result in
+    record {
+      ps = c.take_places-places.result;
+      seated = c.take_places-places.ensures;
+      relinked = relinked_of s p q r ps
+          (vec_items c.clear-top.new.self.targets) (vec_items c.clear-low.new.self.targets) (vec_items c.lay.new.links.targets) (vec_items c.splice_rows-first.new.self.targets) (vec_items c.splice_rows-second.new.self.targets)
+          c.order-turn.result c.index.result.now.arity c.index-2.result.now.arity c.clear-top.result c.clear-low.result c.splice_rows-first.result c.splice_rows-second.result
+          (s.loops + c.splice_rows-first.result + c.splice_rows-second.result)
+          c.order-turn.ensures (p_arity s p q F c.index.result.now c.index.ensures) (q_arity s p q F c.index-2.result.now c.index-2.ensures)
+          (cleared_if (vec_items s.links.targets) p (1024 + c.order-turn.result) c.index.result.now.arity (ltb c.order-turn.result (length r.cells.now)) (vec_items c.clear-top.new.self.targets) c.clear-top.result c.then_some.result c.then_some.ensures c.clear-top.ensures)
+          (cleared_if (vec_items c.clear-top.new.self.targets) q (1025 - c.order-turn.result) c.index-2.result.now.arity (ltb (1 - c.order-turn.result) (length r.cells.now)) (vec_items c.clear-low.new.self.targets) c.clear-low.result c.then_some-2.result c.then_some-2.ensures c.clear-low.ensures)
+          c.lay.ensures c.splice_rows-first.ensures c.splice_rows-second.ensures refl;
+      kinds = listed_kinds (vec_items s.places) r.cells.now (length r.cells.now) ps (vec_items c.fill.new.cells) c.fill.ensures;
+      arities = listed_arities (vec_items s.places) r.cells.now (length r.cells.now) ps (vec_items c.fill.new.cells) c.fill.ensures;
+      ends = refl;
+    }
 
 pub invariant_of-self : goal.invariant_of-self
 invariant_of-self c =
@@ -105,8 +116,7 @@ invariant_of-self c =
     let Y = c.requires in
     let W = did c in
     record {
-      every = c.fill.ensures.kinds.long ∙ s.every;
-      all = c.fill.ensures.arities.long ∙ s.all;
+      every = c.fill.ensures.long ∙ s.every;
       ports = few_ports s p q r Y (after c) W;
       wide = map_long s p q r Y (after c) W;
       few = s.few;
@@ -133,9 +143,3 @@ returns c =
       },
       downwards s p q r Y (after e) (did e),
     )
-
-pub splice_rows-first-requires-clause-ports : goal.splice_rows-first-requires-clause-ports
-splice_rows-first-requires-clause-ports c = few c.index-a.result.now (p_few c.args.self.now c.args.left c.args.right c.requires.facing c.index-a.result.now c.index-a.ensures)
-
-pub splice_rows-second-requires-clause-ports : goal.splice_rows-second-requires-clause-ports
-splice_rows-second-requires-clause-ports c = few c.index-b.result.now (q_few c.args.self.now c.args.left c.args.right c.requires.facing c.index-b.result.now c.index-b.ensures)

@@ -1,7 +1,7 @@
 use Rattle.std.proofs.Common.{ℕ, ◌<◌}
 use Rattle.calculus.specs.Spots.{end, port}
 use Rattle.nets.specs.Drafts.{plan, Faulty}
-use Rattle.nets.proofs.draft.Draft.first_fault.Given as goal
+use Rattle.nets.proofs.draft.Draft.check.Given as goal
 
 abbrev pub invariant-loop-e : goal.invariant-loop-e
 invariant-loop-e l = (i : ℕ) → i < l.e → Faulty (plan l.self) (end i) → ⊥
