@@ -1,5 +1,5 @@
 -- The graph of a table's net, as the table tells it. Assumes nothing.
-use Rattle.std.proofs.Common.{◌≡◌, ℕ, ◌+◌, ◌-◌, ◌<◌, ◌≤◌, true, cond, eqb, ltb, ◌≢◌, get_or, vec_items, Option, sym, ap, ◌∙◌, inl, inr, arith}
+use Rattle.std.proofs.Common.{◌≡◌, ℕ, ◌+◌, ◌-◌, ◌<◌, ◌≤◌, true, cond, eqb, ltb, ◌≢◌, get_or, Option, sym, ap, ◌∙◌, inl, inr, arith}
 use Rattle.std.proofs.lemmas.Bool.{cases_lt, ltb-true, or_cases, eqb-true}
 use Rattle.calculus.specs.Spots.{Spot, end, port}
 use Rattle.pairing.specs.Graph.{Sound}
@@ -21,7 +21,7 @@ fits t = record {
   linked = λ e h. apart t (end e) (there_end (content t) e h);
   ports = λ r j n.
       let u = port_there (content t) r j (is_there (content t) (port r j) n) in
-      ((let p = t.ports r in let q = u.1 in omega arith), get_or (vec_items t.kinds) r 0, some_kind (content t) r u.0);
+      ((let p = t.ports r in let q = u.1 in omega arith), get_or (content t).kinds r 0, some_kind (content t) r u.0);
   ends = λ e n. end_there (content t) e (is_there (content t) (end e) n);
 }
 

@@ -1,4 +1,4 @@
-use Rattle.std.proofs.Common.{◌+◌, take, sym, ap, ◌∙◌, subst}
+use Rattle.std.proofs.Common.{[], rules, ◌+◌, take, sym, ap, ◌∙◌, subst}
 use Rattle.arrayvec.specs.ArrayVec.{ArrayVec}
 use Rattle.strategies.specs.declared.pair.Pair.{Pair as Waiting}
 use Rattle.nets.specs.Meaning.{net}
@@ -6,6 +6,10 @@ use Rattle.pairs.specs.Gathering.{Gathered}
 use Rattle.pairs.proofs.Gathers.{gathered_none, gathered_some, room}
 use Rattle.pairs.proofs.gather.gather.Goals as goal
 use Rattle.pairs.proofs.gather.gather.Goals.{in-Some, in_default}
+
+-- none of no places
+pub loop-place-init : goal.loop-place-init
+loop-place-init g c = λ _ _. record { pairs = []; order = record { each = search rules; all = search rules; rising = search rules }; same = c.new-found.ensures }
 
 pub loop-place-preserved : goal.loop-place-preserved
 loop-place-preserved g c = λ G O.
