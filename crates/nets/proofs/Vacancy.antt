@@ -1,6 +1,7 @@
 -- The highest bit of the occupancy map that is not set. Assumes nothing.
-use Rattle.std.proofs.Common.{◌≡◌, ℕ, suc, ◌+◌, ◌-◌, ◌*◌, ◌/◌, ◌%◌, ◌^◌, ◌<◌, ◌≤◌, ◌≢◌, ◌⊎◌, List, get_or, Some, sym, refl, ap, ◌∙◌, subst, ap₂, inl, inr, arith, pow_mono}
+use Rattle.std.proofs.Common.{◌≡◌, ℕ, suc, ◌+◌, ◌-◌, ◌*◌, ◌/◌, ◌%◌, ◌^◌, ◌<◌, ◌≤◌, ◌≢◌, ◌⊎◌, List, [], ◌∷◌, ◌++◌, length, get_or, Some, sym, refl, ap, ◌∙◌, subst, ap₂, inl, inr, arith, pow_mono}
 use lib.Count.{count_leading_zeros, leading_top}
+use Rattle.std.proofs.lemmas.List.{length_push, get_or_push, get_or_append_left}
 use Rattle.std.proofs.lemmas.Bool.{cases_eq}
 use Rattle.nets.specs.Layout.{bit}
 use Rattle.nets.specs.Seating.{Highest}
@@ -72,3 +73,39 @@ found ms i h lt n f =
         let p : 2 ^ suc j ≤ 2 ^ (k % 8) = pow_mono (omega arith) in
         ap (λ (x : ℕ). get_or ms x 0 / 2 ^ (k % 8) % 2) e ∙ set_bit (255 - get_or ms i 0) (get_or ms i 0) (omega arith) (k % 8) (omega arith) (omega arith)
     above j s k a b (inr o) = full_above ms (i + 1) f k (omega arith) b
+
+-- the bytes that are still to be looked at, from the first on; the others are full
+pub record Rest (ms rest : List ℕ) (count : ℕ) : Type 0 where
+  pub counted : count ≡ 0
+  pub within : length rest ≤ length ms
+  pub front : (k : ℕ) → k < length rest → get_or rest k 0 ≡ get_or ms k 0
+  pub full : (k : ℕ) → length rest ≤ k → k < 128 → get_or ms k 0 ≡ 255
+
+pub rest_all : (ms : List ℕ) → length ms ≡ 128 → Rest ms ms 0
+rest_all ms l = record { counted = refl; within = omega arith; front = λ k h. refl; full = λ k h i. absurd (omega arith) }
+
+-- the last of them
+module _ (ms rest more : List ℕ) (count b : ℕ) (R : Rest ms rest count) (e : rest ≡ more ++ b ∷ []) where
+  long : length rest ≡ length more + 1
+  long = ap length e ∙ length_push more b
+
+  pub last_low : length more < length ms
+  last_low = let l = long in let w = R.within in omega arith
+
+  pub last_byte : get_or ms (length more) 0 ≡ b
+  last_byte = sym (R.front (length more) (let l = long in omega arith)) ∙ ap (λ (xs : List ℕ). get_or xs (length more) 0) e ∙ get_or_push more b 0 (length more) refl
+
+  pub full_past : (k : ℕ) → length more + 1 ≤ k → k < 128 → get_or ms k 0 ≡ 255
+  full_past k h l = R.full k (let z = long in omega arith) l
+
+  pub rest_less : b ≡ 255 → (n : ℕ) → n ≡ count → Rest ms more n
+  rest_less full n c = record {
+    counted = c ∙ R.counted;
+    within = let l = last_low in omega arith;
+    front = λ k h. sym (get_or_append_left more (b ∷ []) 0 k h) ∙ ap (λ (xs : List ℕ). get_or xs k 0) (sym e) ∙ R.front k (let z = long in omega arith);
+    full = λ k h l. go k h l (cases_eq k (length more));
+  }
+    where
+      go : (k : ℕ) → length more ≤ k → k < 128 → (k ≡ length more) ⊎ (k ≢ length more) → get_or ms k 0 ≡ 255
+      go k h l (inl z) = ap (λ (k : ℕ). get_or ms k 0) z ∙ last_byte ∙ full
+      go k h l (inr o) = full_past k (omega arith) l

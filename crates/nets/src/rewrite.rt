@@ -100,7 +100,7 @@ impl Table {
     }
 }
 
-// 0 if the first place is the lower one, else 1.
+// 0 if the first place is the lower one, else 1: the number of the new cell that takes it, and of its spare row.
 fn order(left: u16, right: u16) -> u16
     ensures { result ≡ (if nat_lt left right then 0 else 1) }
 {

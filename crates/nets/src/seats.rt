@@ -54,10 +54,10 @@ fn take_vacant(map: &mut [u8; 128]) -> u16
 fn highest_vacant(map: &[u8; 128]) -> Option<u16>
     ensures { Highest map.now result }
 {
-    for i in (0..128u16).rev() {
-        let free = 255 - map[i as usize];
+    for (i, byte) in map.iter().enumerate().rev() {
+        let free = 255 - *byte;
         if free != 0 {
-            return Some(i * 8 + (7 - free.leading_zeros() as u16));
+            return Some(i as u16 * 8 + (7 - free.leading_zeros() as u16));
         }
     }
     None
