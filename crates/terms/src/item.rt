@@ -9,5 +9,6 @@ use arrayvec::ArrayVec;
 pub struct Item {
     pub(crate) letters: ArrayVec<u8, 8>,
     ghost some: { 1 ≤ length letters.items },
+    ghost few: { length letters.items ≤ 8 },
     ghost formed: { (k : ℕ) → k < length letters.items → letter capital (slice_index letters.items k) ≡ true },
 }

@@ -28,4 +28,4 @@ invariant_of-result c =
     let w = word_of (goal.at.invariant_of-result c).After-try_from in
     let same : c.unwrap-letters.result.items ≡ c.args.bytes.now = search rules in
     let word : Word capital c.unwrap-letters.result.items = subst (Word capital) (sym same) w in
-    record { some = word.some; formed = word.letters }
+    record { some = word.some; few = word.few; formed = word.letters }
