@@ -7,21 +7,21 @@ ghost use Rattle.alike.specs.Rows.{Spotted};
 use nets::spot::Spot;
 
 // The number of a row, by which its seat is found: there are 1,094.
-#[derive(Clone, Copy)]
+#[derive(Clone, Copy, Debug, PartialEq, Eq)]
 pub(crate) struct Row {
     pub(crate) number: u16,
     ghost small: { number < 1094 },
 }
 
 // What stands in a row: a cell of a kind, or an end, each of a kind of its own.
-#[derive(Clone, Copy, PartialEq, Eq)]
+#[derive(Clone, Copy, Debug, PartialEq, Eq)]
 pub(crate) enum Kind {
     Cell(u8),
     End(u8),
 }
 
-// A port of a row.
-#[derive(Clone, Copy)]
+// A port of a row. A table's links have this shape too; what is alike is decided over public views, however a table keeps its links.
+#[derive(Clone, Copy, Debug, PartialEq, Eq)]
 pub(crate) struct Port {
     pub(crate) row: Row,
     pub(crate) number: u8,

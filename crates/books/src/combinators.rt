@@ -8,6 +8,8 @@ use crate::shelf::look;
 use crate::table::RulePort::{L, N, R};
 use crate::table::{Cell, RuleTable, Wire};
 
+// A kind is a number, as a cell and a net file have it: a table holds the cells of any book.
+
 /// The kind γ, which has two auxiliary ports.
 pub const GAMMA: u8 = 0;
 

@@ -1,4 +1,4 @@
-// Where a book keeps its rules.
+// Where a book keeps its rules. Each book is a type, as all values of a type mean one book; what books share is this look-up.
 ghost use Rattle.std.specs.Option.{option_map};
 ghost use Rattle.books.specs.Shelves.{Looked};
 

@@ -5,7 +5,7 @@ use books::book::Book;
 use books::combinators::Combinators;
 use books::counts::Counts;
 use netfile::reader::{ReadFault, read};
-use netfile::writer::write;
+use netfile::writer::{FILE_ROOM, write};
 use nets::table::Table;
 use refusals::fault::Fault;
 use std::alloc::AllocError;
@@ -51,7 +51,7 @@ fn print_written<B: Book>(
     table: &Table,
     bytes: &[u8],
 ) -> anyhow::Result<()> {
-    let mut out = vec![in rt.alloc(); 0u8; 16_648]?;
+    let mut out = vec![in rt.alloc(); 0u8; FILE_ROOM]?;
     match write(book, table, &mut out) {
         Ok(n) => {
             let same = out.get(0..n) == Some(bytes);
@@ -104,6 +104,7 @@ fn kept(out: &[u8]) -> usize {
 }
 
 fn print_fault(rt: &HostRuntime, fault: ReadFault) -> anyhow::Result<()> {
+    // want of memory is no refusal
     let refusal = fault.refusal().ok_or(AllocError)?;
     Ok(println!(rt; "{refusal}")?)
 }

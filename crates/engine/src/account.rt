@@ -6,6 +6,7 @@ use books::book::Book;
 use strategies::strategy::Strategy;
 
 /// Draws a pair and puts it back, draws again and rewrites, and then drives: the account of these calls leads from the run as it was to the run as it is.
+// what a drive answers: two plain numbers
 pub fn take_turns<B: Book, S: Strategy>(run: &mut Run<B, S>, limit: u32) -> (u32, u8)
     ensures { Accounted B.Book.meaning S.Strategy run.old limit result run.new }
 {

@@ -13,6 +13,7 @@ impl<B: Book, S: Strategy> Run<B, S> {
     pub fn drive(&mut self, limit: u32) -> (u32, u8)
         ensures { Drives B.Book.meaning S.Strategy self.old limit result self.new }
     {
+        // counted, since the answer says how many were done
         for done in 0..limit {
             let slip = match self.draw() {
                 Ok(slip) => slip,

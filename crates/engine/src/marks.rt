@@ -2,6 +2,7 @@
 ghost use Rattle.std.specs.Prelude.{◌≡◌, ℕ, true, false, length, Decides, slice_set};
 
 /// A mark for each place.
+// an array of fixed room: no call of a run allocates
 #[derive(Drop)]
 pub(crate) struct Marks {
     cells: [bool; 1024],
@@ -42,6 +43,7 @@ impl Marks {
         self.set_one(right, out);
     }
 
+    // Sets the mark of a place, if there is such a place.
     fn set_one(&mut self, place: u16, out: bool)
         ensures { self.new.cells ≡ slice_set self.old.cells place out }
     {

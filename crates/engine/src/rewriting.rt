@@ -64,10 +64,7 @@ impl<B: Book, S: Strategy> Run<B, S> {
         ensures { Decides result (IsReady B.Book.meaning self.now slip.now) }
     {
         let Net { book, table } = &self.net;
-        !matches!(
-            table.check_pair(book, slip.left, slip.right),
-            Some(PairFault::NotReady)
-        )
+        table.check_pair(book, slip.left, slip.right) != Some(PairFault::NotReady)
     }
 }
 

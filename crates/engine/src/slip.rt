@@ -10,7 +10,7 @@ pub struct Slip {
 }
 
 impl Slip {
-    /// The pair's places; the slip is gone.
+    /// The pair's places, two plain numbers as the calls of a table take them; the slip is gone.
     pub(crate) fn spend(self) -> (u16, u16)
         ensures { result ≡ slip_places self }
     {

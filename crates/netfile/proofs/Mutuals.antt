@@ -16,7 +16,7 @@ use Rattle.netfile.specs.Faults.{size, IsCell, Names, CellDue, LinkDue, BadWord,
 use Rattle.netfile.specs.Reading.{Headed, Mutual, DueNet}
 use Rattle.netfile.specs.Passes.{NoCell, CellRead, NoLink, LinkRead, NamedBefore, Laid, WordOf, MutualAt, FaultAt, nth_spot}
 use Rattle.netfile.specs.declared.head.Head.{Head}
-use Rattle.netfile.specs.declared.file.Cell.{Cell}
+use Rattle.books.specs.declared.table.Cell.{Cell}
 use Rattle.netfile.proofs.Order.{same_name, same_arity, same_start, same_word, earlier, cell_or_link, cases_spot, before_from_word, link_there}
 use Rattle.netfile.proofs.Walk.{number, nth_number, number_below, number_before, due_nameable}
 use Rattle.netfile.proofs.Verdicts.{clean}

@@ -10,7 +10,7 @@ use Rattle.netfile.specs.Words.{cell_word, word}
 use Rattle.netfile.specs.Faults.{size, IsCell, Names, CellDue, LinkDue}
 use Rattle.netfile.specs.Reading.{Headed, Mutual, DueFile, DueNet}
 use Rattle.netfile.specs.declared.head.Head.{Head}
-use Rattle.netfile.specs.declared.file.Cell.{Cell}
+use Rattle.books.specs.declared.table.Cell.{Cell}
 
 -- the first two words
 abbrev pub HeadRead : RuleBook → List ℕ → Result Head FileFault → Type 0

@@ -5,6 +5,7 @@ ghost use Rattle.netfile.specs.Reading.{Headed};
 use crate::decode::{decode_cell, decode_link, word_at};
 use crate::head::Head;
 use books::book::Book;
+use books::table::Cell;
 use nets::spot::Spot;
 use refusals::faults::FileFault;
 
@@ -17,17 +18,10 @@ pub(crate) struct File<'a, B: Book> {
     ghost headed: { Headed (B.meaning book.now) bytes.now head.ends head.cells head.loops },
 }
 
-/// What a cell word says, with the arity that the book gives the kind.
-#[derive(Clone, Copy, PartialEq, Eq, Debug)]
-pub(crate) struct Cell {
-    pub(crate) kind: u8,
-    pub(crate) arity: u8,
-}
-
 impl<B: Book> File<'_, B> {
     ghost use Rattle.netfile.specs.Passes.{CellRead, LinkRead, LinksRead, CellChecked, WordsRead};
 
-    /// The cell at a word.
+    /// The cell at a word, with the arity that the book gives its kind.
     pub(crate) fn cell_at(&self, at: u32) -> Result<Cell, FileFault>
         ensures { CellRead (B.meaning self.now.book.now) self.now.bytes.now at result }
     {
@@ -52,6 +46,7 @@ impl<B: Book> File<'_, B> {
     fn check_links(&self, from: u32, to: u32) -> Result<(), FileFault>
         ensures { LinksRead self.now.bytes.now self.now.head from to result }
     {
+        // a word is named by its number, which is what a fault tells
         for at in from..to {
             self.link_at(at)?;
         }

@@ -37,7 +37,7 @@ impl Survey {
 }
 
 /// What is wrong with a file: a fault of the file's words, or one of its links.
-#[derive(Clone, Copy)]
+#[derive(Clone, Copy, Debug, PartialEq, Eq)]
 pub enum SurveyFault {
     File(FileFault),
     Net(NetFault),

@@ -34,6 +34,7 @@ impl Notation for Counts {
 }
 
 /// A spot as it is printed.
+// a type of its own: `Spot` and `Display` are both of other crates
 #[derive(Clone, Copy)]
 pub(crate) struct Shown(pub(crate) Spot);
 

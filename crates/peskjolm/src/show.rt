@@ -6,7 +6,7 @@ use books::counts::Counts;
 use netfile::reader::read;
 use nets::spot::Spot;
 use nets::table::Table;
-use pairs::active::active_pair;
+use pairs::active::led_by;
 use std::alloc::AllocError;
 use std::io;
 
@@ -22,13 +22,14 @@ fn show_in<B: Notation>(rt: &HostRuntime, book: &B, bytes: &[u8]) -> io::Result<
     match read(rt.alloc(), book, bytes) {
         Ok(table) => show_table(rt, book, &table),
         Err(fault) => {
+            // want of memory is no refusal
             let refusal = fault.refusal().ok_or(AllocError)?;
             println!(rt; "{refusal}")
         }
     }
 }
 
-fn show_table<B: Notation>(rt: &HostRuntime, book: &B, table: &Table) -> io::Result<()> {
+fn show_table<B: Notation>(rt: &impl Print, book: &B, table: &Table) -> io::Result<()> {
     println!(rt; "book {}", book.number())?;
     println!(rt; "ends {}", table.ends())?;
     println!(rt; "cells {}", table.cells())?;
@@ -46,7 +47,7 @@ fn show_table<B: Notation>(rt: &HostRuntime, book: &B, table: &Table) -> io::Res
 }
 
 // The cell in a place with its links, if one stands there.
-fn show_cell<B: Notation>(rt: &HostRuntime, book: &B, table: &Table, place: u16) -> io::Result<()> {
+fn show_cell<B: Notation>(rt: &impl Print, book: &B, table: &Table, place: u16) -> io::Result<()> {
     let (Some(kind), Some(arity)) = (table.kind(place), table.arity(place)) else {
         return Ok(());
     };
@@ -59,7 +60,7 @@ fn show_cell<B: Notation>(rt: &HostRuntime, book: &B, table: &Table, place: u16)
 }
 
 // What a spot is linked with.
-fn show_link(rt: &HostRuntime, table: &Table, spot: Spot) -> io::Result<()> {
+fn show_link(rt: &impl Print, table: &Table, spot: Spot) -> io::Result<()> {
     match table.mate(spot) {
         Some(mate) => print!(rt; " - {}", Shown(mate)),
         None => Ok(()),
@@ -69,9 +70,6 @@ fn show_link(rt: &HostRuntime, table: &Table, spot: Spot) -> io::Result<()> {
 // How many active pairs the net has: each is counted at its lower cell.
 fn active_pairs<B: Book>(book: &B, table: &Table) -> usize {
     (0..1024)
-        .filter(|&place| active_pair(book, table, place).is_some_and(|pair| pair
-            .left
-            .min(pair.right)
-            == place))
+        .filter(|&place| led_by(book, table, place).is_some())
         .count()
 }

@@ -8,6 +8,7 @@ use crate::refusal::Refusal;
 use std::alloc::AllocError;
 
 /// Why a call that takes memory is refused: a fault, or want of memory.
+// no `Option`: `?` asks for a `From` of the fault and of want of memory, and an impl for the library's type may not stand here
 #[derive(Clone, Copy, Debug, PartialEq, Eq)]
 pub enum OrMemory<F> {
     Fault(F),

@@ -1,6 +1,6 @@
 ghost use Rattle.std.specs.Prelude.{◌≡◌, Some};
 ghost use Rattle.refusals.specs.Faults.{refused};
-ghost use Rattle.refusals.specs.Shown.{layer_name, shown_as};
+ghost use Rattle.refusals.specs.Shown.{shown_as};
 
 use crate::layer::Layer;
 use std::fmt;
@@ -23,22 +23,6 @@ impl Refusal {
             layer,
             place,
         }
-    }
-}
-
-impl fmt::Display for Layer {
-    ghost output = { λ l. Some (layer_name l) };
-
-    fn fmt<W: fmt::Write>(&self, f: &mut fmt::Formatter<W>) -> fmt::Result {
-        f.write_str(match self {
-            Layer::Order => "order",
-            Layer::Text => "text",
-            Layer::File => "file",
-            Layer::Net => "net",
-            Layer::Strategy => "strategy",
-            Layer::Run => "run",
-            Layer::Reading => "reading",
-        })
     }
 }
 

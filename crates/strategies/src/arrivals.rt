@@ -24,13 +24,8 @@ impl Arrivals {
     pub fn new(heap: Global) -> Result<Arrivals, AllocError>
         ensures { IfOk result (λ a. earliest_first a ≡ []) }
     {
-        let free = Pair {
-            left: 0,
-            right: 0,
-            cells: 0,
-        };
         Ok(Arrivals {
-            pairs: vec![in heap; free; usize::from(ROOM)]?,
+            pairs: vec![in heap; Pair::default(); usize::from(ROOM)]?,
             first: 0,
             count: 0,
         })
