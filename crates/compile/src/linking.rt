@@ -14,8 +14,8 @@ pub(crate) fn link(draft: &mut Draft, from: Spot, to: Spot)
     requires apart { at from ≢ at to }
     ensures { Linked (plan draft.old) (at from) (at to) (plan draft.new) }
 {
-    draft.name_link(from, to);
-    draft.name_link(to, from);
+    draft.name_link(from, to).unwrap();
+    draft.name_link(to, from).unwrap();
 }
 
 /// Puts a γ into the next place, and links a spot with one of its ports.
@@ -24,6 +24,6 @@ pub(crate) fn place_cell(draft: &mut Draft, spot: Spot, cell: u16, port: u8)
     requires there { (planned (plan draft.old) (at spot) ≡ true) × (port ≤ 2) }
     ensures { Placed (plan draft.old) (at spot) cell port (plan draft.new) }
 {
-    draft.add_cell(GAMMA, 2);
+    draft.add_cell(GAMMA, 2).unwrap();
     link(draft, spot, Spot::Port(cell, port));
 }

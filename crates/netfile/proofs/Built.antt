@@ -1,11 +1,11 @@
 -- What a draft that is filled from a file holds.
-use Rattle.std.proofs.Common.{◌≡◌, take, ℕ, ◌+◌, ◌<◌, Bool, true, ◌&&◌, ltb, leb, ◌⊎◌, List, get_or, Some, sym, refl, ap, ◌∙◌, subst, subst₂, inl, inr, arith}
+use Rattle.std.proofs.Common.{◌≡◌, take, ℕ, ◌+◌, ◌<◌, true, ltb, leb, ◌⊎◌, List, get_or, Some, None, sym, refl, ap, ◌∙◌, subst, subst₂, inl, inr, arith}
 use Rattle.std.proofs.lemmas.List.{get_or-take}
 use Rattle.std.proofs.lemmas.Bool.{lt-ltb, le-leb, ltb-true, leb-true, and_from, and_parts, cases_eq}
 use Rattle.calculus.specs.Spots.{Spot, end, port}
 use Rattle.calculus.specs.Books.{RuleBook, Laws}
-use Rattle.nets.specs.declared.draft.Draft.{Draft}
-use Rattle.nets.specs.Drafts.{Plan, Attempt, planned, nameable, CellAdded, LinkNamed}
+use Rattle.nets.specs.Drafts.{Plan, planned, nameable, CellAdded, LinkNamed, cell_fault, link_fault}
+use Rattle.nets.proofs.Attempts.{cell_free, link_free}
 use Rattle.netfile.specs.Words.{cell_word, word}
 use Rattle.netfile.specs.Faults.{IsCell, CellDue, Nameable, Names, LinkDue}
 use Rattle.netfile.specs.Reading.{Sound}
@@ -16,10 +16,6 @@ use Rattle.netfile.specs.declared.head.Head.{Head}
 use Rattle.netfile.specs.declared.survey.Survey.{Survey}
 use Rattle.netfile.proofs.Order.{cases_spot, earlier, same_word, link_there}
 use Rattle.netfile.proofs.Mutuals.{has_port, port_word}
-
--- what a draft does where its test passes
-pub attempt_done : {test r : Bool} {d f : Draft} {Done : Type 0} → Attempt test d Done r f → test ≡ true → Done
-attempt_done attempt passes = attempt.done (attempt.answer ∙ passes)
 
 -- a survey says where each cell begins
 pub laid : (K : RuleBook) (bs : List ℕ) (s : Survey) → Sound K bs s → Laid K bs s.head s.starts
@@ -60,9 +56,8 @@ module _ (K : RuleBook) {B : Type 0} (l : LayoutView B) (laid : Laid K l.bytes l
   pub cell_known : (i : ℕ) → i < c → (a : ℕ) × IsCell K bs (get_or starts i 0) a
   cell_known i less = let q = earlier K bs e c (laid.begins i less) laid.whole less in (q.0, q.1)
 
-  pub cell_room : Laws K → (i k a : ℕ) (p : Plan) → i < c → Celled K l i p → K.arity k ≡ Some a → (ltb p.cells 1024 && leb a 2) ≡ true
-  cell_room laws i k a p less before f =
-      and_from _ _ (lt-ltb p.cells 1024 (omega (arith, before.cells, h.small))) (le-leb a 2 (laws.kinds k a f).1)
+  pub cell_room : Laws K → (i k a : ℕ) (p : Plan) → i < c → Celled K l i p → K.arity k ≡ Some a → cell_fault p a ≡ None
+  cell_room laws i k a p less before f = cell_free p a (omega (arith, before.cells, h.small)) (laws.kinds k a f).1
 
   pub celled_more : (i k a : ℕ) (p q : Plan) → Celled K l i p → CellAdded p k a q → word bs (get_or starts i 0) ≡ cell_word k → K.arity k ≡ Some a → Celled K l (i + 1) q
   celled_more i k a p q before added is f = record {
@@ -113,11 +108,14 @@ module _ (K : RuleBook) {B : Type 0} (l : LayoutView B) (laid : Laid K l.bytes l
           port_word K bs h starts laid i j (p.arity i) less (is.0, (p.kind i, all.kinds i less, all.arities i less)) (leb-true j (p.arity i) parts.1),
         )
 
-  pub link_room : (y : Spot) → Nameable e c y → nameable y ≡ true
-  link_room (end x) is = lt-ltb x 64 (omega (arith, h.few))
-  link_room (port i j) is = and_from _ _ (lt-ltb i 1024 (omega (arith, is.0, h.small))) (lt-ltb j 3 is.1)
+  in_tables : (y : Spot) → Nameable e c y → nameable y ≡ true
+  in_tables (end x) is = lt-ltb x 64 (omega (arith, h.few))
+  in_tables (port i j) is = and_from _ _ (lt-ltb i 1024 (omega (arith, is.0, h.small))) (lt-ltb j 3 is.1)
 
   module _ (p : Plan) (all : Celled K l h.cells p) where
+    pub link_room : (x y : Spot) (w : ℕ) → LinkDue K bs e c x w → Names bs e c w y → link_fault p x y ≡ None
+    link_room x y w due names = link_free p x y (due_planned p all x w due) (in_tables y names.2)
+
     pub naming_one : (x y : Spot) (w : ℕ) (q : Plan) → LinkNamed p x y q → LinkDue K bs e c x w → Names bs e c w y → Naming K l (λ z. z ≡ x) p q
     naming_one x y w q done due names = record {
       celled = record {

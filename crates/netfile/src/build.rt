@@ -19,7 +19,7 @@ impl<B: Book> Layout<'_, B> {
             let Ok(cell) = self.file.cell_at(*start as u32) else {
                 unreachable!()
             };
-            draft.add_cell(cell.kind, cell.arity);
+            draft.add_cell(cell.kind, cell.arity).unwrap();
         }
     }
 
@@ -32,7 +32,7 @@ impl<B: Book> Layout<'_, B> {
             let Ok(target) = self.file.link_at(word) else {
                 unreachable!()
             };
-            draft.name_link(spot, target);
+            draft.name_link(spot, target).unwrap();
         }
     }
 

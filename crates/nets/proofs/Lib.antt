@@ -2,6 +2,7 @@ pub mod Places
 pub mod Standing
 pub mod Fronts
 pub mod Plans
+pub mod Attempts
 pub mod Sealing
 pub mod Slots
 pub mod Splicing

@@ -1,7 +1,10 @@
 -- Tables in the making: cells in places 0, 1, 2 and on, and links as they are named, mutual or not. Assumes nothing.
-use Rattle.std.specs.Prelude.{◌≡◌, ℕ, ◌+◌, ◌-◌, ◌^◌, ◌<◌, min, Bool, true, false, cond, ◌&&◌, ◌≢◌, ◌⊎◌, Some, None, Ok, Err, vec_items, Result, nat_le, nat_lt, slice_index_or}
+use Rattle.std.specs.Prelude.{◌≡◌, ℕ, ◌+◌, ◌-◌, ◌^◌, ◌<◌, min, Bool, true, false, cond, ◌&&◌, ◌≢◌, ◌⊎◌, Some, None, Ok, Err, vec_items, Option, Result, nat_le, nat_lt, slice_index_or, IsOk, IsErr}
+use Rattle.std.specs.Result.{result_err}
 use Rattle.calculus.specs.Spots.{Spot, end, port}
 use Rattle.nets.specs.declared.draft.Draft.{Draft}
+use Rattle.nets.specs.declared.fault.DraftFault.{DraftFault}
+use Rattle.nets.specs.declared.fault.DraftFault.TheVariants.{Full, Arity, NoSpot, NoTarget}
 use Rattle.nets.specs.declared.spot.Spot.{Spot as Seen}
 use Rattle.nets.specs.declared.table.Table.{Table}
 use Rattle.nets.specs.Layout.{blank, code, decode, goal}
@@ -64,11 +67,19 @@ pub record LinkNamed (p : Plan) (x y : Spot) (q : Plan) : Type 0 where
   pub link : q.link x ≡ y
   pub others : (z : Spot) → planned p z ≡ true → z ≢ x → q.link z ≡ p.link z
 
--- done where the test passes, else nothing changes
-pub record Attempt (test : Bool) (d : Draft) (Done : Type 0) (r : Bool) (e : Draft) : Type 0 where
-  pub answer : r ≡ test
-  pub done : r ≡ true → Done
-  pub refused : r ≡ false → e ≡ d
+-- the fault that is due where a cell of this arity is added, if one is
+abbrev pub cell_fault : Plan → ℕ → Option DraftFault
+cell_fault p a = cond (nat_lt p.cells 1024) (cond (nat_le a 2) None (Some Arity)) (Some Full)
+
+-- and where the link of x is to name y
+abbrev pub link_fault : Plan → Spot → Spot → Option DraftFault
+link_fault p x y = cond (planned p x) (cond (nameable y) None (Some NoTarget)) (Some NoSpot)
+
+-- done where no fault is due, else that fault is answered and nothing changes
+pub record Attempt (due : Option DraftFault) (d : Draft) (Done : Type 0) (r : Result (Unit {0}) DraftFault) (e : Draft) : Type 0 where
+  pub answer : result_err r ≡ due
+  pub done : IsOk r → Done
+  pub refused : IsErr r → e ≡ d
 
 -- the spot is there, and its link names itself, or what is not there, or what does not name it back
 abbrev pub Faulty : Plan → Spot → Type 0

@@ -1,11 +1,12 @@
 // How a draft is made, filled and sealed.
-ghost use Rattle.std.specs.Prelude.{◌≡◌, ℕ, ◌+◌, ◌*◌, ◌/◌, ◌%◌, ◌^◌, ◌<◌, ◌≤◌, true, false, ◌&&◌, ltb, length, IfOk, if◌then◌else◌, ◌==◌, nat_le, nat_lt};
+ghost use Rattle.std.specs.Prelude.{◌≡◌, ℕ, ◌+◌, ◌*◌, ◌/◌, ◌%◌, ◌^◌, ◌<◌, ◌≤◌, true, false, ltb, length, IfOk, if◌then◌else◌, ◌==◌};
 ghost use Rattle.nets.specs.Layout.{slots, decode, goal};
 ghost use Rattle.nets.specs.Views.{at};
-ghost use Rattle.nets.specs.Drafts.{plan, planned, nameable, Begun, CellAdded, LinkNamed, Attempt, Sealing};
+ghost use Rattle.nets.specs.Drafts.{plan, planned, nameable, Begun, CellAdded, LinkNamed, cell_fault, link_fault, Attempt, Sealing};
 ghost use Rattle.nets.specs.Inner.{Checked, CheckedCell, CheckedSpot, Front};
 
 use crate::draft::Draft;
+use crate::fault::DraftFault;
 use crate::links::Links;
 use crate::spot::Spot;
 use crate::table::Table;
@@ -29,27 +30,33 @@ impl Draft {
         })
     }
 
-    /// Puts a cell into the next place; no where 1,024 cells are there or the arity is over 2.
-    pub fn add_cell(&mut self, kind: u8, arity: u8) -> bool
-        ensures { Attempt (nat_lt (plan self.old).cells 1024 && nat_le arity 2) self.old (CellAdded (plan self.old) kind arity (plan self.new)) result self.new }
+    /// Puts a cell into the next place; refuses where 1,024 cells are there, else where the arity is over 2.
+    pub fn add_cell(&mut self, kind: u8, arity: u8) -> Result<(), DraftFault>
+        ensures { Attempt (cell_fault (plan self.old) arity) self.old (CellAdded (plan self.old) kind arity (plan self.new)) result self.new }
     {
-        if self.cells >= 1024 || arity > 2 {
-            return false;
+        if self.cells >= 1024 {
+            return Err(DraftFault::Full);
+        }
+        if arity > 2 {
+            return Err(DraftFault::Arity);
         }
         self.places[self.cells as usize] = Cell { kind, arity };
         self.cells += 1;
-        true
+        Ok(())
     }
 
-    /// Lets the link of a spot name another; no where the spot is not there or the other can be in no table.
-    pub fn name_link(&mut self, from: Spot, to: Spot) -> bool
-        ensures { Attempt (planned (plan self.old) (at from) && nameable (at to)) self.old (LinkNamed (plan self.old) (at from) (at to) (plan self.new)) result self.new }
+    /// Lets the link of a spot name another; refuses where the spot is not there, else where the other can be in no table.
+    pub fn name_link(&mut self, from: Spot, to: Spot) -> Result<(), DraftFault>
+        ensures { Attempt (link_fault (plan self.old) (at from) (at to)) self.old (LinkNamed (plan self.old) (at from) (at to) (plan self.new)) result self.new }
     {
-        if !self.has(from) || !is_nameable(to) {
-            return false;
+        if !self.has(from) {
+            return Err(DraftFault::NoSpot);
+        }
+        if !is_nameable(to) {
+            return Err(DraftFault::NoTarget);
         }
         self.links.name(from.link(), to.link());
-        true
+        Ok(())
     }
 
     // Whether the spot is there.

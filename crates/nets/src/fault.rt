@@ -1,4 +1,4 @@
-// Why a pair is not rewritten.
+// Why a pair is not rewritten, and a draft not filled.
 ghost use Rattle.std.specs.Prelude.{◌≡◌};
 ghost use Rattle.nets.specs.Seating.{to_rewrite_fault, to_pair_fault};
 
@@ -24,6 +24,19 @@ pub enum PairFault {
     LoopsFull,
     /// The rule's new cells outnumber the vacant places plus two.
     NoPlace,
+}
+
+/// Why a draft takes no cell, or names no link.
+#[derive(Clone, Copy, PartialEq, Eq, Debug)]
+pub enum DraftFault {
+    /// 1,024 cells are there.
+    Full,
+    /// The arity is over 2.
+    Arity,
+    /// The spot is not there.
+    NoSpot,
+    /// The spot to be named can be in no table.
+    NoTarget,
 }
 
 // A limit of the table that is against a rewrite, whatever the pair.
