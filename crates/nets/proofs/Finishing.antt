@@ -83,18 +83,18 @@ facing_told t p q k h l e = go (cases_eq k (q * 4))
     go (inr n) = let b : eqb k (q * 4) ≡ false = grind (arith) in subst (Told (Face (net t) p q)) (sym b) (λ F. n (e ∙ p_named t p q F))
 
 -- the rows of the rule have room
-pub room_of : (a b : ℕ) (r : RuleTable) → Fitting a b r → a ≤ 2 → b ≤ 2 → (ps : List ℕ) → Places (seat ps) (length r.cells.now) → Room (wires_of r) ps
-room_of a b r F ha hb ps P = record {
+pub room_of : (a b : ℕ) (r : RuleTable) → Fitting a b r → a ≤ 2 → b ≤ 2 → (ps : List ℕ) → length ps ≡ length r.cells.now → Places (seat ps) (length r.cells.now) → Room (wires_of r) ps
+room_of a b r F ha hb ps long P = record {
   known = λ x y w. known x (F.pairs_only x y w);
   rows = λ x y w. rows x (F.pairs_only x y w);
   apart = λ x y u v w z e. apart x u (F.pairs_only x y w) (F.pairs_only u v z) e;
   with_one = F.with_one;
 }
   where
-    known : (x : RulePort) → Paired a b r x → Known x
+    known : (x : RulePort) → Paired a b r x → Known ps x
     known (L j) h = tt
     known (R j) h = tt
-    known (N i j) h = omega (arith, h.0, F.few)
+    known (N i j) h = omega (arith, h.0)
 
     rows : (x : RulePort) → Paired a b r x → (row_of ps x < 1030) × (number_of x < 4)
     rows (L j) h = (omega arith, omega (arith, h.1))
@@ -249,7 +249,7 @@ module _ (s : Table) (p q : ℕ) (r : RuleTable) (Y : Replaceable s p q r) (d : 
       record {
         places = PL;
         vacant = λ i h. elim (cases_lt i 2) [
-          | inl l ↦ inr (given_up p q n s.occupied ps d.occupied W.seated F.few pq low_p low_q on_p on_q i l)
+          | inl l ↦ inr (given_up p q n s.occupied ps d.occupied W.seated F.few pq low_p low_q on_p on_q i l h)
           | inr l ↦ inl (let z = vacant p q n s.occupied ps d.occupied W.seated F.few pq low_p low_q on_p on_q i l h in λ e. omega (arith, z.1))
         ];
         row_p = left_row p q n s.occupied ps d.occupied W.seated F.few pq low_p low_q on_p on_q;
@@ -269,7 +269,7 @@ module _ (s : Table) (p q : ℕ) (r : RuleTable) (Y : Replaceable s p q r) (d : 
   }
 
   room : Room (wires_of r) W.ps
-  room = room_of a b r F (s.ports p) (s.ports q) ps PL
+  room = room_of a b r F (s.ports p) (s.ports q) ps W.seated.number PL
 
   some_none : (o : Option ℕ) (k : ℕ) → o ≡ Some k → o ≢ None
   some_none o k e f = let z : ◌≡◌ {A = ℕ} 0 1 = cc in omega arith
@@ -278,8 +278,8 @@ module _ (s : Table) (p q : ℕ) (r : RuleTable) (Y : Replaceable s p q r) (d : 
   downwards =
       let kc : ℕ → ℕ = λ x. get_or (content s).kinds x 0 in
       record {
-        first = λ h. W.seated.first;
-        second = λ h. W.seated.second;
+        first = W.seated.first;
+        second = W.seated.second;
         vacant = λ i h l.
             let v = vacant p q n s.occupied ps d.occupied W.seated F.few pq low_p low_q on_p on_q i h l in
             (v.0, kind_none c (λ x. get_or (content s).kinds x 0) (seat ps i) (λ e. omega (arith, v.1)));

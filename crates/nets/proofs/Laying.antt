@@ -11,7 +11,7 @@ use Rattle.nets.proofs.Notings.{tied_wired, wired_tied}
 use Rattle.nets.proofs.Slots.{Whole, goal_same, goal_other}
 
 -- both ports of a wire are the rule's
-pub known_both : (ws : List (RulePort × RulePort)) (ps : List ℕ) → Room ws ps → (n : ℕ) (u v : RulePort) → slice_get ws n ≡ Some (u, v) → Known u × Known v
+pub known_both : (ws : List (RulePort × RulePort)) (ps : List ℕ) → Room ws ps → (n : ℕ) (u v : RulePort) → slice_get ws n ≡ Some (u, v) → Known ps u × Known ps v
 known_both ws ps G n u v e = (
   G.known u v (tied_wired ws (n + 1) u v (n, (u, v), omega arith, e, inl (refl, refl))),
   G.known v u (tied_wired ws (n + 1) v u (n, (u, v), omega arith, e, inr (refl, refl))),

@@ -110,38 +110,38 @@ module _ (p q n : ℕ) (ms ps ns : List ℕ) (Q : Seated p q n ms ps ns) (few : 
   ]
 
   -- the first two are the pair's
-  pub given_up : (i : ℕ) → i < 2 → (seat ps i ≡ p) ⊎ (seat ps i ≡ q)
-  given_up i h = go (cases_eq i 0) either_way
+  pub given_up : (i : ℕ) → i < 2 → i < n → (seat ps i ≡ p) ⊎ (seat ps i ≡ q)
+  given_up i h l = go (cases_eq i 0) either_way
     where
       go : (i ≡ 0) ⊎ (i ≢ 0) → ((p ≡ min p q) × (q ≡ max p q)) ⊎ ((p ≡ max p q) × (q ≡ min p q)) → (seat ps i ≡ p) ⊎ (seat ps i ≡ q)
-      go (inl e) (inl w) = inl (ap (seat ps) e ∙ Q.first ∙ sym w.0)
-      go (inl e) (inr w) = inr (ap (seat ps) e ∙ Q.first ∙ sym w.1)
-      go (inr n) (inl w) = let e : i ≡ 1 = omega arith in inr (ap (seat ps) e ∙ Q.second ∙ sym w.1)
-      go (inr n) (inr w) = let e : i ≡ 1 = omega arith in inl (ap (seat ps) e ∙ Q.second ∙ sym w.0)
+      go (inl e) (inl w) = inl (ap (seat ps) e ∙ Q.first (omega arith) ∙ sym w.0)
+      go (inl e) (inr w) = inr (ap (seat ps) e ∙ Q.first (omega arith) ∙ sym w.1)
+      go (inr n) (inl w) = let e : i ≡ 1 = omega arith in inr (ap (seat ps) e ∙ Q.second (omega arith) ∙ sym w.1)
+      go (inr n) (inr w) = let e : i ≡ 1 = omega arith in inl (ap (seat ps) e ∙ Q.second (omega arith) ∙ sym w.0)
 
-  on_pair : (i : ℕ) → i < 2 → (seat ps i < 1024) × (bit ms (seat ps i) ≡ 1)
-  on_pair i h = elim (given_up i h) [
+  on_pair : (i : ℕ) → i < 2 → i < n → (seat ps i < 1024) × (bit ms (seat ps i) ≡ 1)
+  on_pair i h l = elim (given_up i h l) [
     | inl e ↦ subst (λ (r : ℕ). (r < 1024) × (bit ms r ≡ 1)) (sym e) (hp, op)
     | inr e ↦ subst (λ (r : ℕ). (r < 1024) × (bit ms r ≡ 1)) (sym e) (hq, oq)
   ]
 
   pub places : Places (seat ps) n
   places = record {
-    low = λ i h. elim (cases_lt i 2) [ inl l ↦ (on_pair i l).0 | inr l ↦ (vacant i l h).0 ];
+    low = λ i h. elim (cases_lt i 2) [ inl l ↦ (on_pair i l h).0 | inr l ↦ (vacant i l h).0 ];
     apart = λ i j h k e. go i j h k e (cases_lt i 2) (cases_lt j 2) (cases_eq i j);
   }
     where
-      first_two : seat ps 0 ≢ seat ps 1
-      first_two e = lohi (sym Q.first ∙ e ∙ Q.second)
+      first_two : 1 < n → seat ps 0 ≢ seat ps 1
+      first_two h e = lohi (sym (Q.first (omega arith)) ∙ e ∙ Q.second h)
 
       go : (i j : ℕ) → i < n → j < n → seat ps i ≡ seat ps j → (i < 2) ⊎ (2 ≤ i) → (j < 2) ⊎ (2 ≤ j) → (i ≡ j) ⊎ (i ≢ j) → i ≡ j
       go i j h k e x y (inl z) = z
       go i j h k e (inl x) (inl y) (inr z) = absurd (elim (cases_eq i 0) [
-        | inl w ↦ (let v : j ≡ 1 = omega arith in first_two (ap (seat ps) (sym w) ∙ e ∙ ap (seat ps) v))
-        | inr w ↦ (let u : i ≡ 1 = omega arith in let v : j ≡ 0 = omega arith in first_two (ap (seat ps) (sym v) ∙ sym e ∙ ap (seat ps) u))
+        | inl w ↦ (let v : j ≡ 1 = omega arith in first_two (omega arith) (ap (seat ps) (sym w) ∙ e ∙ ap (seat ps) v))
+        | inr w ↦ (let u : i ≡ 1 = omega arith in let v : j ≡ 0 = omega arith in first_two (omega arith) (ap (seat ps) (sym v) ∙ sym e ∙ ap (seat ps) u))
       ])
-      go i j h k e (inl x) (inr y) (inr z) = let a = (on_pair i x).1 in let b = (vacant j y k).1 in let c = ap (bit ms) e in absurd (omega arith)
-      go i j h k e (inr x) (inl y) (inr z) = let a = (on_pair j y).1 in let b = (vacant i x h).1 in let c = ap (bit ms) e in absurd (omega arith)
+      go i j h k e (inl x) (inr y) (inr z) = let a = (on_pair i x h).1 in let b = (vacant j y k).1 in let c = ap (bit ms) e in absurd (omega arith)
+      go i j h k e (inr x) (inl y) (inr z) = let a = (on_pair j y k).1 in let b = (vacant i x h).1 in let c = ap (bit ms) e in absurd (omega arith)
       go i j h k e (inr x) (inr y) (inr z) = absurd (elim (cases_eq i 2) [
         | inl w ↦ (let v : j ≡ 3 = omega arith in three_four (omega arith) (ap (seat ps) (sym w) ∙ e ∙ ap (seat ps) v))
         | inr w ↦ (let u : i ≡ 3 = omega arith in let v : j ≡ 2 = omega arith in three_four (omega arith) (ap (seat ps) (sym v) ∙ sym e ∙ ap (seat ps) u))
@@ -171,8 +171,8 @@ module _ (p q n : ℕ) (ms ps ns : List ℕ) (Q : Seated p q n ms ps ns) (few : 
   new_on i h = go (cases_eq i 0) (cases_eq i 1) (cases_eq i 2)
     where
       go : (i ≡ 0) ⊎ (i ≢ 0) → (i ≡ 1) ⊎ (i ≢ 1) → (i ≡ 2) ⊎ (i ≢ 2) → bit ns (seat ps i) ≡ 1
-      go (inl e) y z = ap (λ (i : ℕ). bit ns (seat ps i)) e ∙ ap (bit ns) Q.first ∙ stays_on lo (lo_on (omega arith))
-      go (inr a) (inl e) z = ap (λ (i : ℕ). bit ns (seat ps i)) e ∙ ap (bit ns) Q.second ∙ stays_on hi (ap (λ (m : List ℕ). bit m hi) (m₂ (omega arith)) ∙ on_hi)
+      go (inl e) y z = ap (λ (i : ℕ). bit ns (seat ps i)) e ∙ ap (bit ns) (Q.first (omega arith)) ∙ stays_on lo (lo_on (omega arith))
+      go (inr a) (inl e) z = ap (λ (i : ℕ). bit ns (seat ps i)) e ∙ ap (bit ns) (Q.second (omega arith)) ∙ stays_on hi (ap (λ (m : List ℕ). bit m hi) (m₂ (omega arith)) ∙ on_hi)
       go (inr a) (inr b) (inl e) = ap (λ (i : ℕ). bit ns (seat ps i)) e ∙ later (third_on (omega arith))
         where
           later : bit Q.thirds (seat ps 2) ≡ 1 → bit ns (seat ps 2) ≡ 1
@@ -187,7 +187,7 @@ module _ (p q n : ℕ) (ms ps ns : List ℕ) (Q : Seated p q n ms ps ns) (few : 
 
   lo_off : ((i : ℕ) → i < n → min p q ≢ seat ps i) → bit ns (min p q) ≢ 1
   lo_off o =
-      let z : n ≡ 0 = elim (cases_lt 0 n) [ inl h ↦ absurd (o 0 h (sym Q.first)) | inr h ↦ omega arith ] in
+      let z : n ≡ 0 = elim (cases_lt 0 n) [ inl h ↦ absurd (o 0 h (sym (Q.first h))) | inr h ↦ omega arith ] in
       let a = (is_flipped (ltb n 1) ms Q.lefts lo (less 1 (omega arith)) Q.low).here in
       let b = (is_flipped (ltb n 2) Q.lefts Q.rights hi (less 2 (omega arith)) Q.high).other lo lohi in
       let c = ap (λ (m : List ℕ). bit m lo) (m₄ (omega arith) ∙ m₃ (omega arith)) in
@@ -196,7 +196,7 @@ module _ (p q n : ℕ) (ms ps ns : List ℕ) (Q : Seated p q n ms ps ns) (few : 
 
   hi_off : ((i : ℕ) → i < n → max p q ≢ seat ps i) → bit ns (max p q) ≢ 1
   hi_off o =
-      let z : n < 2 = elim (cases_lt 1 n) [ inl h ↦ absurd (o 1 h (sym Q.second)) | inr h ↦ omega arith ] in
+      let z : n < 2 = elim (cases_lt 1 n) [ inl h ↦ absurd (o 1 h (sym (Q.second h))) | inr h ↦ omega arith ] in
       let a = (is_flipped (ltb n 2) Q.lefts Q.rights hi (less 2 z) Q.high).here in
       let b : bit Q.lefts hi ≡ bit ms hi = elim (cases_lt n 1) [
         | inl h ↦ (is_flipped (ltb n 1) ms Q.lefts lo (less 1 h) Q.low).other hi (λ e. lohi (sym e))
@@ -279,21 +279,21 @@ module _ (p q n : ℕ) (ms ps ns : List ℕ) (Q : Seated p q n ms ps ns) (few : 
   turn_high : q < p → turn p q ≡ 1
   turn_high h = let b : ltb p q ≡ false = grind (arith) in ap (λ (t : Bool). cond t 0 1) b
 
-  pub turned : (turn p q ≤ 1) × (seat ps (turn p q) ≡ p) × (seat ps (1 - turn p q) ≡ q)
+  pub turned : (turn p q ≤ 1) × (turn p q < n → seat ps (turn p q) ≡ p) × (1 - turn p q < n → seat ps (1 - turn p q) ≡ q)
   turned = elim (cases_lt p q) [
     | inl h ↦
         (let e = turn_low h in
-        (omega arith, ap (seat ps) e ∙ Q.first ∙ (omega arith), ap (λ (t : ℕ). seat ps (1 - t)) e ∙ Q.second ∙ (omega arith)))
+        (omega arith, λ l. ap (seat ps) e ∙ Q.first (omega arith) ∙ (omega arith), λ l. ap (λ (t : ℕ). seat ps (1 - t)) e ∙ Q.second (omega arith) ∙ (omega arith)))
     | inr h ↦
         (let e = turn_high (omega arith) in
-        (omega arith, ap (seat ps) e ∙ Q.second ∙ (omega arith), ap (λ (t : ℕ). seat ps (1 - t)) e ∙ Q.first ∙ (omega arith)))
+        (omega arith, λ l. ap (seat ps) e ∙ Q.second (omega arith) ∙ (omega arith), λ l. ap (λ (t : ℕ). seat ps (1 - t)) e ∙ Q.first (omega arith) ∙ (omega arith)))
   ]
 
-  seated_row : (s i o : ℕ) → i ≤ 1 → seat ps i ≡ s → seat ps (1 - i) ≡ o → s ≢ o → s < 1024 → swaps (seat ps) n s ≡ cond (ltb i n) (1024 + i) s
+  seated_row : (s i o : ℕ) → i ≤ 1 → (i < n → seat ps i ≡ s) → (1 - i < n → seat ps (1 - i) ≡ o) → s ≢ o → s < 1024 → swaps (seat ps) n s ≡ cond (ltb i n) (1024 + i) s
   seated_row s i o hi e f so hs = elim (cases_lt i n) [
-    | inl h ↦ ap (swaps (seat ps) n) (sym e) ∙ swaps_old (seat ps) n i places h ∙ sym (ap (λ (t : Bool). cond t (1024 + i) s) (more_than i h))
+    | inl h ↦ ap (swaps (seat ps) n) (sym (e h)) ∙ swaps_old (seat ps) n i places h ∙ sym (ap (λ (t : Bool). cond t (1024 + i) s) (more_than i h))
     | inr h ↦
-        swaps_else (seat ps) n s (λ j k. ((λ z. let u : j ≡ 1 - i = omega arith in so (z ∙ ap (seat ps) u ∙ f)), (λ z. omega arith)))
+        swaps_else (seat ps) n s (λ j k. ((λ z. let u : j ≡ 1 - i = omega arith in so (z ∙ ap (seat ps) u ∙ f (omega arith))), (λ z. omega arith)))
         ∙ sym (ap (λ (t : Bool). cond t (1024 + i) s) (no_more i h))
   ]
 
@@ -305,5 +305,5 @@ module _ (p q n : ℕ) (ms ps ns : List ℕ) (Q : Seated p q n ms ps ns) (few : 
       let t = turned in
       let u : 1024 + (1 - turn p q) ≡ 1025 - turn p q = omega (arith, t.0) in
       let v : 1 - (1 - turn p q) ≡ turn p q = omega (arith, t.0) in
-      seated_row q (1 - turn p q) p (omega arith) t.2 (ap (seat ps) v ∙ t.1) (λ e. pq (sym e)) hq
+      seated_row q (1 - turn p q) p (omega arith) t.2 (λ l. ap (seat ps) v ∙ t.1 (omega arith)) (λ e. pq (sym e)) hq
       ∙ ap (λ (x : ℕ). cond (ltb (1 - turn p q) n) x q) u

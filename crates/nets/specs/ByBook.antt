@@ -1,5 +1,6 @@
 -- Rewriting a pair of a table in place, by the book: when it is refused, and what it promises. Assumes nothing.
 use Rattle.std.specs.Prelude.{◌≡◌, ℕ, ◌+◌, ◌≤◌, List, length, Some, None, Ok, Err, Option, Result, slice_index}
+use Rattle.arrayvec.specs.ArrayVec.{ArrayVec}
 use Rattle.calculus.specs.Books.{RuleBook}
 use Rattle.calculus.specs.Nets.{Pair, Active}
 use Rattle.calculus.specs.Rewriting.{Rewriting}
@@ -48,13 +49,14 @@ PairDue K s p q t (Err e) = PairCause K s p q e × (t ≡ s)
 abbrev pub seat : List ℕ → ℕ → ℕ
 seat places i = slice_index places i
 
--- t is s with the pair rewritten, the new cells in these places, every other cell in its place, and a table of the book again
+-- t is s with the pair rewritten, the new cells in these places, a place for each, every other cell in its place, and a table of the book again
 pub record RewroteAt (K : RuleBook) (s : Table) (P : Pair) (places : List ℕ) (t : Table) : Type 0 where
+  pub number : length places ≡ length P.rule.cells
   pub seats : Seats (net s) P (seat places)
   pub rewriting : Rewriting K (net s) P (seat places) (net t)
   pub of_book : OfBook K t
 
 -- the active pair of these places, in a table of the book, is rewritten by its rule
-abbrev pub RewritesPair : RuleBook → Table → ℕ → ℕ → Table → Result (List ℕ) PairFault → Type 0
-RewritesPair K s p q t (Ok places) = OfBook K s → (P : Pair) → At p q P → Active K (net s) P → RewroteAt K s P places t
+abbrev pub RewritesPair : RuleBook → Table → ℕ → ℕ → Table → Result (ArrayVec ℕ) PairFault → Type 0
+RewritesPair K s p q t (Ok places) = OfBook K s → (P : Pair) → At p q P → Active K (net s) P → RewroteAt K s P places.items t
 RewritesPair K s p q t (Err e) = Unit {0}

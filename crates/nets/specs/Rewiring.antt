@@ -75,15 +75,15 @@ number_of (N i j) = j
 abbrev pub seat_of : List ℕ → RulePort → ℕ
 seat_of ps x = row_of ps x * 4 + number_of x
 
--- a rule has such a row
-abbrev pub Known : RulePort → Type 0
-Known (L j) = Unit {0}
-Known (R j) = Unit {0}
-Known (N i j) = i < 4
+-- a new cell has its place among these
+abbrev pub Known : List ℕ → RulePort → Type 0
+Known ps (L j) = Unit {0}
+Known ps (R j) = Unit {0}
+Known ps (N i j) = i < length ps
 
 -- the rows of the rule's ports are rows of the table, and no two ports have one slot
 pub record Room (ws : List (RulePort × RulePort)) (ps : List ℕ) : Type 0 where
-  pub known : (x y : RulePort) → Wired ws x y → Known x
+  pub known : (x y : RulePort) → Wired ws x y → Known ps x
   pub rows : (x y : RulePort) → Wired ws x y → (row_of ps x < 1030) × (number_of x < 4)
   pub apart : (x y u v : RulePort) → Wired ws x y → Wired ws u v → seat_of ps x ≡ seat_of ps u → x ≡ u
   pub with_one : (x y z : RulePort) → Wired ws x y → Wired ws x z → y ≡ z

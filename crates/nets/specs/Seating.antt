@@ -45,8 +45,9 @@ Taken false ms r ns = ns ≡ ms
 
 -- the places of n new cells: the two given up, lower first, then vacant ones from the top down
 pub record Seated (p q n : ℕ) (ms ps ns : List ℕ) : Type 0 where
-  pub first : seat ps 0 ≡ min p q
-  pub second : seat ps 1 ≡ max p q
+  pub number : length ps ≡ n
+  pub first : 0 < n → seat ps 0 ≡ min p q
+  pub second : 1 < n → seat ps 1 ≡ max p q
   pub lefts : List ℕ
   pub rights : List ℕ
   pub thirds : List ℕ

@@ -5,19 +5,19 @@ ghost use Rattle.nets.specs.Seating.{Chosen, RuleChecked};
 
 use crate::fault::PairFault;
 use crate::table::Table;
+use arrayvec::ArrayVec;
 use books::book::Book;
 use books::table::RuleTable;
 
 impl Table {
-    /// Rewrites the active pair of the cells in two places, L first, by the book's rule, and answers where its new cells stand, N1 first; entries past the
-    /// rule's cells mean nothing. Refused where the places hold no active pair of cells with the book's arities, where there are over 1,073,741,821 loops,
+    /// Rewrites the active pair of the cells in two places, L first, by the book's rule, and answers where its new cells stand, N1 first. Refused where the places hold no active pair of cells with the book's arities, where there are over 1,073,741,821 loops,
     /// and where the new cells outnumber the vacant places plus two.
     pub fn rewrite_pair<B: Book>(
         &mut self,
         book: &B,
         left: u16,
         right: u16,
-    ) -> Result<[u16; 4], PairFault>
+    ) -> Result<ArrayVec<u16, 4>, PairFault>
         ensures due { PairDue (B.meaning book.now) self.old left right self.new result }
         ensures rewrites { RewritesPair (B.meaning book.now) self.old left right self.new result }
     {

@@ -9,7 +9,7 @@ use crate::links::Links;
 use books::table::{RulePort, RuleTable, Wire};
 
 // All wires of the rule, its new cells at the places given, L and R at their gates.
-pub(crate) fn lay(links: &mut Links, rule: &RuleTable, places: &[u16; 4])
+pub(crate) fn lay(links: &mut Links, rule: &RuleTable, places: &[u16])
     requires { Room (wires_of rule.now) places.now }
     ensures { Laid links.old.targets.items (wires_of rule.now) places.now links.new.targets.items }
 {
@@ -19,8 +19,8 @@ pub(crate) fn lay(links: &mut Links, rule: &RuleTable, places: &[u16; 4])
 }
 
 // The link to a port of the rule.
-fn moved(port: RulePort, places: &[u16; 4]) -> Link
-    requires { Known (port_of port) }
+fn moved(port: RulePort, places: &[u16]) -> Link
+    requires { Known places.now (port_of port) }
     ensures { slot_of result ≡ seat_of places.now (port_of port) }
 {
     match port {

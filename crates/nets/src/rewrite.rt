@@ -11,6 +11,7 @@ use crate::lay::lay;
 use crate::occupancy::is_occupied;
 use crate::seats::{fill, take_places};
 use crate::table::Table;
+use arrayvec::ArrayVec;
 use books::table::RuleTable;
 
 impl Table {
@@ -76,9 +77,9 @@ impl Table {
 
     // The pair replaced by the rule's right side: its auxiliary ports parked where new cells take its places, the rule's wires laid, each port spliced with its gate.
     // Answers the places of the new cells.
-    pub(crate) fn replace(&mut self, left: u16, right: u16, rule: &RuleTable) -> [u16; 4]
+    pub(crate) fn replace(&mut self, left: u16, right: u16, rule: &RuleTable) -> ArrayVec<u16, 4>
         requires { Replaceable self.old left right rule.now }
-        ensures { Replaced self.old left right rule.now result self.new }
+        ensures { Replaced self.old left right rule.now result.items self.new }
     {
         let a = self.places[left as usize].arity;
         let b = self.places[right as usize].arity;

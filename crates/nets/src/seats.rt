@@ -4,15 +4,21 @@ ghost use Rattle.nets.specs.ByBook.{seat};
 ghost use Rattle.nets.specs.Rewiring.{Places, Filled};
 ghost use Rattle.nets.specs.Seating.{bits_below, Flipped, Highest, Taken, Seated};
 
+use arrayvec::ArrayVec;
 use books::table::Cell;
 
 // The places of the new cells, which are marked as occupied; the pair's places that no new cell takes are marked as vacant.
-pub(crate) fn take_places(map: &mut [u8; 128], left: u16, right: u16, cells: usize) -> [u16; 4]
+pub(crate) fn take_places(
+    map: &mut [u8; 128],
+    left: u16,
+    right: u16,
+    cells: usize,
+) -> ArrayVec<u16, 4>
     requires first { left < 1024 }
     requires second { right < 1024 }
     requires few { cells ≤ 4 }
     requires room { bits_below map.old 1024 + cells ≤ 1026 }
-    ensures { Seated left right cells map.old result map.new }
+    ensures { Seated left right cells map.old result.items map.new }
 {
     let low = left.min(right);
     let high = left.max(right);
@@ -24,7 +30,9 @@ pub(crate) fn take_places(map: &mut [u8; 128], left: u16, right: u16, cells: usi
     }
     let third = if cells > 2 { take_vacant(map) } else { 0 };
     let fourth = if cells > 3 { take_vacant(map) } else { 0 };
-    [low, high, third, fourth]
+    let mut places = ArrayVec::from_array_in((), [low, high, third, fourth]);
+    places.truncate(cells);
+    places
 }
 
 // Turns the bit of a place.
@@ -64,9 +72,9 @@ fn highest_vacant(map: &[u8; 128]) -> Option<u16>
 }
 
 // Writes the new cells at their places.
-pub(crate) fn fill(cells: &mut Vec<Cell>, new: &[Cell], places: &[u16; 4])
+pub(crate) fn fill(cells: &mut Vec<Cell>, new: &[Cell], places: &[u16])
     requires long { vec_len cells.old ≡ 1024 }
-    requires few { length new.now ≤ 4 }
+    requires paired { length new.now ≤ length places.now }
     requires places { Places (seat places.now) (length new.now) }
     ensures { Filled cells.old.items new.now (length new.now) places.now cells.new.items }
 {

@@ -1,9 +1,8 @@
 -- Which pairs a rewriting makes: those whose cells are new, or were linked with auxiliary ports of the pair by their principal ports. Assumes nothing.
-use Rattle.std.proofs.Common.{◌≡◌, ℕ, zero, suc, ◌<◌, ◌≤◌, ◌≢◌, ◌⊎◌, List, ◌++◌, length, get_or, take, Some, None, Option, sym, refl, ap, ◌∙◌, subst, inl, inr, arith}
+use Rattle.std.proofs.Common.{◌≡◌, ℕ, zero, suc, ◌<◌, ◌≤◌, ◌≢◌, ◌⊎◌, List, ◌++◌, length, get_or, Some, None, Option, sym, refl, ap, ◌∙◌, subst, inl, inr, arith}
 use Rattle.std.specs.List.{ContainsAt as Has, slice_get}
-use Rattle.std.proofs.ByRecursion.{has_append_left, has_append_right, has_append_cases}
+use Rattle.std.proofs.ByRecursion.{has_get_or, has_append_left, has_append_right, has_append_cases}
 use Rattle.std.proofs.lemmas.Bool.{cases_lt}
-use Rattle.std.proofs.lemmas.List.{get_or-take, length-take-le}
 use Rattle.calculus.specs.Spots.{Spot, end, port}
 use Rattle.calculus.specs.Books.{L, R, N, RuleBook, Laws}
 use Rattle.calculus.specs.Nets.{Net, Good, Active, Pair as CPair}
@@ -16,7 +15,7 @@ use Rattle.calculus.proofs.Wiring.{number}
 use Rattle.nets.specs.ByBook.{seat}
 use Rattle.pairs.specs.Pairs.{lower, Became}
 use Rattle.pairs.specs.Gathering.{neighbours}
-use Rattle.pairs.proofs.Members.{has_take, take_has, Apart, apart-append, at_apart}
+use Rattle.pairs.proofs.Members.{Apart, apart-append, at_apart}
 use Rattle.pairs.proofs.Meeting.{two_cells}
 use Rattle.pairs.proofs.Near.{near_beside, beside_near, near_apart}
 
@@ -41,10 +40,10 @@ ends_there K A P place y z o (crosses (L j) h e l w f) = absurd ((subst (Outside
 ends_there K A P place y z o (crosses (R j) h e l w f) = absurd ((subst (Outside P) e o).1 refl)
 ends_there K A P place y z o (crosses (N i j) h e l w f) = absurd l
 
-module _ (K : RuleBook) (laws : Laws K) (A B : Net) (G : Good K A) (P : CPair) (ps : List ℕ) (W : Rewriting K A P (seat ps) B) (long : length P.rule.cells ≤ length ps) where
+module _ (K : RuleBook) (laws : Laws K) (A B : Net) (G : Good K A) (P : CPair) (ps : List ℕ) (W : Rewriting K A P (seat ps) B) (long : length ps ≡ length P.rule.cells) where
   -- the cells to look at
   abbrev pub touched : List ℕ
-  touched = neighbours A P.left P.right ++ take (length P.rule.cells) ps
+  touched = neighbours A P.left P.right ++ ps
 
   -- the place of a new cell
   abbrev New : ℕ → Type 0
@@ -52,14 +51,11 @@ module _ (K : RuleBook) (laws : Laws K) (A B : Net) (G : Good K A) (P : CPair) (
 
   new_has : (r : ℕ) → New r → Has touched r
   new_has r (i, k, e, f) =
-      has_append_right (neighbours A P.left P.right) (take (length P.rule.cells) ps) r
-      (subst (Has (take (length P.rule.cells) ps)) f (take_has (length P.rule.cells) ps 0 i long (nth_within P.rule.cells i k e)))
+      has_append_right (neighbours A P.left P.right) ps r
+      (subst (Has ps) f (has_get_or ps i 0 (let h = nth_within P.rule.cells i k e in omega arith)))
 
-  has_new : (r : ℕ) → Has (take (length P.rule.cells) ps) r → New r
-  has_new r h =
-      let t = has_take (length P.rule.cells) ps 0 r long h in
-      let n = nth_some P.rule.cells t.0 t.1 in
-      (t.0, n.0, n.1, t.2)
+  has_new : (r : ℕ) → Has ps r → New r
+  has_new r (i, h, e) = let n = nth_some P.rule.cells i (omega arith) in (i, n.0, n.1, e 0)
 
   new_or_not : (r : ℕ) → New r ⊎ Unused P (seat ps) r
   new_or_not r = elim (look (seat ps) (length P.rule.cells) r) [
@@ -136,13 +132,13 @@ module _ (K : RuleBook) (laws : Laws K) (A B : Net) (G : Good K A) (P : CPair) (
               omega arith
 
           out : Has touched r → ⊥
-          out h = elim (has_append_cases (neighbours A P.left P.right) (take (length P.rule.cells) ps) r h) [
+          out h = elim (has_append_cases (neighbours A P.left P.right) ps r h) [
             | inl g ↦ not_beside r s facing g
             | inr g ↦ (let t = has_new r g in old t.0 t.1 t.2 t.3)
           ]
 
           out' : Has touched s → ⊥
-          out' h = elim (has_append_cases (neighbours A P.left P.right) (take (length P.rule.cells) ps) s h) [
+          out' h = elim (has_append_cases (neighbours A P.left P.right) ps s h) [
             | inl g ↦ not_beside s r returning g
             | inr g ↦ (let t = has_new s g in unused t.0 t.1 t.2 t.3)
           ]
@@ -177,25 +173,24 @@ module _ (K : RuleBook) (laws : Laws K) (A B : Net) (G : Good K A) (P : CPair) (
       | inl n ↦ inl (new_has r n)
       | inr old ↦ elim (outside P (A.mate (port r 0))) [
         | inl o ↦ inr (stayed old o)
-        | inr t ↦ inl (has_append_left (neighbours A P.left P.right) (take (length P.rule.cells) ps) r (beside old t.0 t.1 t.2 t.3))
+        | inr t ↦ inl (has_append_left (neighbours A P.left P.right) ps r (beside old t.0 t.1 t.2 t.3))
       ]
     ]
 
   -- the new cells have places of their own, and no neighbour stands there
   pub touched_apart : Apart touched
   touched_apart =
-      apart-append (neighbours A P.left P.right) (take (length P.rule.cells) ps) (near_apart A G.twice P.left P.right (two_cells K A P W.active))
-      (at_apart (take (length P.rule.cells) ps) 0 new_apart) not_both
+      apart-append (neighbours A P.left P.right) ps (near_apart A G.twice P.left P.right (two_cells K A P W.active))
+      (at_apart ps 0 new_apart) not_both
     where
-      new_apart : (i j : ℕ) → i < length (take (length P.rule.cells) ps) → j < length (take (length P.rule.cells) ps) →
-          get_or (take (length P.rule.cells) ps) i 0 ≡ get_or (take (length P.rule.cells) ps) j 0 → i ≡ j
+      new_apart : (i j : ℕ) → i < length ps → j < length ps →
+          get_or ps i 0 ≡ get_or ps j 0 → i ≡ j
       new_apart i j h k e =
-          let m = length-take-le (length P.rule.cells) ps long in
           let a = nth_some P.rule.cells i (omega arith) in
           let b = nth_some P.rule.cells j (omega arith) in
-          W.apart i j a.0 b.0 a.1 b.1 (sym (get_or-take (length P.rule.cells) ps i 0 (omega arith)) ∙ e ∙ get_or-take (length P.rule.cells) ps j 0 (omega arith))
+          W.apart i j a.0 b.0 a.1 b.1 e
 
-      not_both : (r : ℕ) → Has (neighbours A P.left P.right) r → Has (take (length P.rule.cells) ps) r → ⊥
+      not_both : (r : ℕ) → Has (neighbours A P.left P.right) r → Has ps r → ⊥
       not_both r x y =
           let t = near_beside A G.twice P.left P.right r x in
           let stood = G.there (port r 0) (λ e. auxiliary t.1 t.3 r (sym e ∙ t.4)) in
@@ -256,7 +251,7 @@ module _ (K : RuleBook) (laws : Laws K) (A B : Net) (G : Good K A) (P : CPair) (
     )
       where
         never : Active K A Q → Disjoint P Q → ⊥
-        never was d = elim (has_append_cases (neighbours A P.left P.right) (take (length P.rule.cells) ps) Q.left (lower_left h)) [
+        never was d = elim (has_append_cases (neighbours A P.left P.right) ps Q.left (lower_left h)) [
           | inl g ↦
               (let t = near_beside A G.twice P.left P.right Q.left g in
               let z : port Q.right 0 ≡ port t.0 t.1 = sym was.facing ∙ t.4 in

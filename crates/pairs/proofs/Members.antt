@@ -50,11 +50,6 @@ module _ {X : Type 0} where
       let j : k < n = omega arith in
       (k, j, sym (get_or-take n xs k d j) ∙ e d)
 
-  pub take_has : (n : ℕ) (xs : List X) (d : X) (i : ℕ) → n ≤ length xs → i < n → Has (take n xs) (get_or xs i d)
-  take_has n xs d i l h =
-      let m = length-take-le n xs l in
-      (i, omega arith, λ e. get_or_default (take n xs) i e d (omega arith) ∙ get_or-take n xs i d h)
-
   -- no two of the list are one
   abbrev pub Apart : List X → Type 0
   Apart [] = Unit {0}

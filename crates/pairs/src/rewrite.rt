@@ -2,7 +2,6 @@
 ghost use Rattle.nets.specs.ByBook.{PairDue};
 ghost use Rattle.pairs.specs.Forming.{Forms};
 
-use crate::active::active_pair;
 use crate::gather::{gather, neighbours};
 use arrayvec::ArrayVec;
 use books::book::Book;
@@ -21,11 +20,8 @@ pub fn rewrite_pair<B: Book>(
     ensures due { PairDue (B.meaning book.now) table.old left right table.new result }
     ensures forms { Forms (B.meaning book.now) table.old left right table.new result }
 {
-    let pair = active_pair(book, table, left).ok_or(PairFault::NotReady)?;
     let mut cells = neighbours(table, left, right);
     let places = table.rewrite_pair(book, left, right)?;
-    cells
-        .try_extend_from_slice(&places[..pair.cells as usize])
-        .unwrap();
+    cells.try_extend_from_slice(&places).unwrap();
     Ok(gather(book, table, &cells))
 }

@@ -16,5 +16,5 @@ pub returns : goal.returns
 returns c =
     done_all c.args.new.now c.loop-cell.cell-iterator.a.rest.now c.args.places.now c.loop-cell.cell-iterator.b.rest.now
     (vec_items c.args.cells.now) (vec_items c.loop-cell.cells) c.loop-cell.invariant c.requires.places (long c.args.cells.now.ok.0 c.requires.long)
-    (omega (arith, c.told-places, c.requires.few))
+    c.requires.paired
     (elim c.in-None.ensures.steps [ inl t ↦ inl t.1.0 | inr t ↦ inr t.1.0 ])

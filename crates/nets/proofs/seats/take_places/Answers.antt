@@ -1,8 +1,10 @@
-use Rattle.std.proofs.Common.{◌≡◌, ℕ, ◌<◌, ◌≤◌, Bool, true, false, ltb, min, max, List, [], ◌∷◌, sym, refl, subst, arith}
+use Rattle.std.proofs.Common.{◌≡◌, ℕ, ◌<◌, ◌≤◌, Bool, true, false, ltb, min, max, List, [], ◌∷◌, length, get_or, take, sym, ap, ◌∙◌, subst, inl, inr, arith}
+use Rattle.std.proofs.lemmas.Bool.{cases_lt}
+use Rattle.std.proofs.lemmas.List.{get_or-take, length-take-le}
 use Rattle.nets.specs.Seating.{FlippedIf, Taken, Seated}
 use Rattle.nets.proofs.Counting.{fourth_room}
 use Rattle.nets.proofs.seats.take_places.Goals as goal
-use Rattle.nets.proofs.seats.take_places.Goals.{then-cells-lt1, else-cells-lt1, then-cells-lt2, else-cells-lt2, then-cells-gt2, else-cells-gt2}
+use Rattle.nets.proofs.seats.take_places.Goals.{then-cells-lt1, else-cells-lt1, then-cells-lt2, else-cells-lt2, then-cells-gt2, else-cells-gt2, then-cells-gt3, else-cells-gt3}
 
 is_less : (a b : ℕ) → a < b → true ≡ ltb a b
 is_less a b h = grind (arith)
@@ -33,32 +35,38 @@ take_vacant-fourth-requires c =
     (elim c.if-cells-gt2.branch [ then-cells-gt2 w ↦ taken c.args.cells 2 _ w.if-cells-gt2.true w.map-is w.third-is w.take_vacant-third.ensures | else-cells-gt2 w ↦ not_taken c.args.cells 2 _ _ w.if-cells-gt2.false w.map-is ])
     (sym (is_less 3 c.args.cells c.if-cells-gt3.true))
 
-seated : (p q n low high : ℕ) {third fourth : ℕ} (ms ls rs ts : List ℕ) {ns : List ℕ} → low ≡ min p q → high ≡ max p q →
-    FlippedIf (ltb n 1) ms low ls → FlippedIf (ltb n 2) ls high rs → Taken (ltb 2 n) rs third ts → Taken (ltb 3 n) ts fourth ns → Seated p q n ms (low ∷ high ∷ third ∷ fourth ∷ []) ns
-seated p q n low high ms ls rs ts e f a b c d = record {
-  first = e;
-  second = f;
+-- a place past those that are kept is none that was taken
+kept : (i n : ℕ) (rs ts : List ℕ) {x y : ℕ} → (i < n → x ≡ y) → Taken (ltb i n) rs x ts → Taken (ltb i n) rs y ts
+kept i n rs ts {x} {y} e T = elim (cases_lt i n) [
+  | inl h ↦ subst (λ (z : ℕ). Taken (ltb i n) rs z ts) (e h) T
+  | inr h ↦ subst (λ (b : Bool). Taken b rs y ts) (not_less i n h) (subst (λ (b : Bool). Taken b rs x ts) (sym (not_less i n h)) T)
+]
+
+seated : (p q n low high third fourth : ℕ) (ms ls rs ts ns ps : List ℕ) → n ≤ 4 → low ≡ min p q → high ≡ max p q →
+    FlippedIf (ltb n 1) ms low ls → FlippedIf (ltb n 2) ls high rs → Taken (ltb 2 n) rs third ts → Taken (ltb 3 n) ts fourth ns →
+    ps ≡ take n (low ∷ high ∷ third ∷ fourth ∷ []) → Seated p q n ms ps ns
+seated p q n low high third fourth ms ls rs ts ns ps few e f a b c d is = record {
+  number = ap length is ∙ length-take-le n (low ∷ high ∷ third ∷ fourth ∷ []) few;
+  first = λ h. at 0 h ∙ e;
+  second = λ h. at 1 h ∙ f;
   lefts = ls;
   rights = rs;
   thirds = ts;
   low = subst (λ (r : ℕ). FlippedIf (ltb n 1) ms r ls) e a;
   high = subst (λ (r : ℕ). FlippedIf (ltb n 2) ls r rs) f b;
-  third = c;
-  fourth = d;
+  third = kept 2 n rs ts (λ h. sym (at 2 h)) c;
+  fourth = kept 3 n ts ns (λ h. sym (at 3 h)) d;
 }
+  where
+    at : (i : ℕ) → i < n → get_or ps i 0 ≡ get_or (low ∷ high ∷ third ∷ fourth ∷ []) i 0
+    at i h = ap (λ (l : List ℕ). get_or l i 0) is ∙ get_or-take n (low ∷ high ∷ third ∷ fourth ∷ []) i 0 h
 
-pub returns-then-cells-gt3 : goal.returns-then-cells-gt3
-returns-then-cells-gt3 c =
-    seated c.args.left c.args.right c.args.cells c.min-low.result c.max-high.result c.args.map.now c.if-cells-lt1.map c.if-cells-lt2.map c.if-cells-gt2.map c.min-low.ensures c.max-high.ensures
+pub returns : goal.returns
+returns c =
+    seated c.args.left c.args.right c.args.cells c.min-low.result c.max-high.result c.if-cells-gt2.third c.if-cells-gt3.fourth
+    c.args.map.now c.if-cells-lt1.map c.if-cells-lt2.map c.if-cells-gt2.map c.if-cells-gt3.map _ c.requires.few c.min-low.ensures c.max-high.ensures
     (elim c.if-cells-lt1.branch [ then-cells-lt1 w ↦ flipped c.args.cells 1 _ _ w.if-cells-lt1.true w.map-is w.flip.ensures | else-cells-lt1 w ↦ left_alone c.args.cells 1 _ _ w.if-cells-lt1.false w.map-is ])
     (elim c.if-cells-lt2.branch [ then-cells-lt2 w ↦ flipped c.args.cells 2 _ _ w.if-cells-lt2.true w.map-is w.flip-then-cells-lt2.ensures | else-cells-lt2 w ↦ left_alone c.args.cells 2 _ _ w.if-cells-lt2.false w.map-is ])
     (elim c.if-cells-gt2.branch [ then-cells-gt2 w ↦ taken c.args.cells 2 _ w.if-cells-gt2.true w.map-is w.third-is w.take_vacant-third.ensures | else-cells-gt2 w ↦ not_taken c.args.cells 2 _ _ w.if-cells-gt2.false w.map-is ])
-    (taken c.args.cells 3 c.if-cells-gt2.map c.if-cells-gt3.true refl refl c.take_vacant-fourth.ensures)
-
-pub returns-else-cells-gt3 : goal.returns-else-cells-gt3
-returns-else-cells-gt3 c =
-    seated c.args.left c.args.right c.args.cells c.min-low.result c.max-high.result c.args.map.now c.if-cells-lt1.map c.if-cells-lt2.map c.if-cells-gt2.map c.min-low.ensures c.max-high.ensures
-    (elim c.if-cells-lt1.branch [ then-cells-lt1 w ↦ flipped c.args.cells 1 _ _ w.if-cells-lt1.true w.map-is w.flip.ensures | else-cells-lt1 w ↦ left_alone c.args.cells 1 _ _ w.if-cells-lt1.false w.map-is ])
-    (elim c.if-cells-lt2.branch [ then-cells-lt2 w ↦ flipped c.args.cells 2 _ _ w.if-cells-lt2.true w.map-is w.flip-then-cells-lt2.ensures | else-cells-lt2 w ↦ left_alone c.args.cells 2 _ _ w.if-cells-lt2.false w.map-is ])
-    (elim c.if-cells-gt2.branch [ then-cells-gt2 w ↦ taken c.args.cells 2 _ w.if-cells-gt2.true w.map-is w.third-is w.take_vacant-third.ensures | else-cells-gt2 w ↦ not_taken c.args.cells 2 _ _ w.if-cells-gt2.false w.map-is ])
-    (not_taken c.args.cells 3 0 c.if-cells-gt2.map c.if-cells-gt3.false refl)
+    (elim c.if-cells-gt3.branch [ then-cells-gt3 w ↦ taken c.args.cells 3 _ w.if-cells-gt3.true w.map-is w.fourth-is w.take_vacant-fourth.ensures | else-cells-gt3 w ↦ not_taken c.args.cells 3 _ _ w.if-cells-gt3.false w.map-is ])
+    (c.truncate.ensures.items ∙ ap (take c.args.cells) c.from_array_in-places.ensures.items)

@@ -1,7 +1,9 @@
-use Rattle.std.proofs.Common.{◌+◌, ◌-◌, ◌<◌, ◌≤◌, ltb, ◌≢◌, length, vec_items, refl, ◌∙◌, arith}
+use Rattle.std.proofs.Common.{ℕ, ◌+◌, ◌-◌, ◌<◌, ◌≤◌, ltb, ◌≢◌, List, length, vec_items, sym, refl, ap, ◌∙◌, subst, arith}
+use Rattle.books.specs.Tables.{wires_of}
+use Rattle.books.proofs.Depicted.{cells_same}
 use Rattle.nets.specs.Layout.{kinds, arities}
 use Rattle.nets.specs.Meaning.{Content, content}
-use Rattle.nets.specs.Rewiring.{Places}
+use Rattle.nets.specs.Rewiring.{Room, Places, Laid, Filled}
 use Rattle.nets.specs.ByBook.{seat}
 use Rattle.nets.specs.Rewrites.{ports_at}
 use Rattle.nets.proofs.Counting.{cells_are}
@@ -47,9 +49,9 @@ clear-low-requires c =
     record { first = omega arith; second = if_spare (λ t. (t < 1030) × (c.args.right ≢ t)) _ _ c.then_some-2.result c.then_some-2.ensures (omega arith, λ z. omega arith); ports = omega (arith, s.ports c.args.right) }
 
 -- the places of the new cells
-seats : (c : After-take_places-places) → Places (seat c.take_places-places.result) (length c.args.rule.now.cells.now)
+seats : (c : After-take_places-places) → Places (seat c.take_places-places.result.items) (length c.args.rule.now.cells.now)
 seats c =
-    places c.args.left c.args.right (length c.args.rule.now.cells.now) c.args.self.now.occupied c.take_places-places.result c.take_places-places.new.map c.take_places-places.ensures
+    places c.args.left c.args.right (length c.args.rule.now.cells.now) c.args.self.now.occupied c.take_places-places.result.items c.take_places-places.new.map c.take_places-places.ensures
     c.requires.fitting.few c.requires.facing.1
     (p_low c.args.self.now c.args.left c.args.right c.requires.facing) (q_low c.args.self.now c.args.left c.args.right c.requires.facing)
     (p_on c.args.self.now c.args.left c.args.right c.requires.facing) (q_on c.args.self.now c.args.left c.args.right c.requires.facing)
@@ -62,14 +64,16 @@ splice_rows-second-requires-clause-ports c = omega (arith, q_few c.args.self.now
 
 pub lay-requires : goal.lay-requires
 lay-requires c =
-    room_of (ports_at c.args.self.now c.args.left) (ports_at c.args.self.now c.args.right) c.args.rule.now c.requires.fitting
-    (c.args.self.now.ports c.args.left) (c.args.self.now.ports c.args.right) c.take_places-places.result (seats (goal.at.lay-requires c).After-take_places-places)
+    subst (Room (wires_of c.args.rule.now)) (sym c.deref.ensures.0)
+    (room_of (ports_at c.args.self.now c.args.left) (ports_at c.args.self.now c.args.right) c.args.rule.now c.requires.fitting
+    (c.args.self.now.ports c.args.left) (c.args.self.now.ports c.args.right) c.take_places-places.result.items c.take_places-places.ensures.number
+    (seats (goal.at.lay-requires c).After-take_places-places))
 
 pub fill-requires : goal.fill-requires
 fill-requires c = record {
   long = c.args.self.now.places.ok.0 ∙ c.args.self.now.every;
-  few = c.requires.fitting.few;
-  places = seats (goal.at.fill-requires c).After-take_places-places;
+  paired = omega (arith, c.take_places-places.ensures.number, ap length c.deref-2.ensures.0);
+  places = subst (λ (ps : List ℕ). Places (seat ps) (length c.args.rule.now.cells.now)) (sym c.deref-2.ensures.0) (seats (goal.at.fill-requires c).After-take_places-places);
 }
 
 -- what the table holds in the end
@@ -83,6 +87,10 @@ after c = record {
   loops = c.args.self.now.loops + c.splice_rows-first.result + c.splice_rows-second.result;
 }
 
+filled : (c : After-fill) → Filled (vec_items c.args.self.now.places) c.args.rule.now.cells.now (length c.args.rule.now.cells.now) c.take_places-places.result.items (vec_items c.fill.new.cells)
+filled c =
+    subst (λ (ps : List ℕ). Filled (vec_items c.args.self.now.places) c.args.rule.now.cells.now (length c.args.rule.now.cells.now) ps (vec_items c.fill.new.cells)) c.deref-2.ensures.0 c.fill.ensures
+
 did : (c : After-fill) → Did c.args.self.now c.args.left c.args.right c.args.rule.now (after c)
 did c =
     let s = c.args.self.now in
@@ -90,9 +98,9 @@ did c =
     let q = c.args.right in
     let r = c.args.rule.now in
     let F = c.requires.facing in
-    let ps = c.take_places-places.result in
+    let ps = c.take_places-places.result.items in
     record {
-      ps = c.take_places-places.result;
+      ps = c.take_places-places.result.items;
       seated = c.take_places-places.ensures;
       relinked = relinked_of s p q r ps
           (vec_items c.clear-top.new.self.targets) (vec_items c.clear-low.new.self.targets) (vec_items c.lay.new.links.targets) (vec_items c.splice_rows-first.new.self.targets) (vec_items c.splice_rows-second.new.self.targets)
@@ -101,9 +109,9 @@ did c =
           c.order-turn.ensures (p_arity s p q F c.index.result.now c.index.ensures) (q_arity s p q F c.index-2.result.now c.index-2.ensures)
           (cleared_if (vec_items s.links.targets) p (1024 + c.order-turn.result) c.index.result.now.arity (ltb c.order-turn.result (length r.cells.now)) (vec_items c.clear-top.new.self.targets) c.clear-top.result c.then_some.result c.then_some.ensures c.clear-top.ensures)
           (cleared_if (vec_items c.clear-top.new.self.targets) q (1025 - c.order-turn.result) c.index-2.result.now.arity (ltb (1 - c.order-turn.result) (length r.cells.now)) (vec_items c.clear-low.new.self.targets) c.clear-low.result c.then_some-2.result c.then_some-2.ensures c.clear-low.ensures)
-          c.lay.ensures c.splice_rows-first.ensures c.splice_rows-second.ensures refl;
-      kinds = listed_kinds (vec_items s.places) r.cells.now (length r.cells.now) ps (vec_items c.fill.new.cells) c.fill.ensures;
-      arities = listed_arities (vec_items s.places) r.cells.now (length r.cells.now) ps (vec_items c.fill.new.cells) c.fill.ensures;
+          (subst (λ (ps : List ℕ). Laid (vec_items c.clear-low.new.self.targets) (wires_of r) ps (vec_items c.lay.new.links.targets)) c.deref.ensures.0 c.lay.ensures) c.splice_rows-first.ensures c.splice_rows-second.ensures refl;
+      kinds = listed_kinds (vec_items s.places) r.cells.now (length r.cells.now) ps (vec_items c.fill.new.cells) (filled c);
+      arities = listed_arities (vec_items s.places) r.cells.now (length r.cells.now) ps (vec_items c.fill.new.cells) (filled c);
       ends = refl;
     }
 
@@ -137,6 +145,7 @@ returns c =
     let Y = c.requires in
     λ K i w laws ofb dep act. (
       record {
+        number = e.take_places-places.ensures.number ∙ cells_same K r w dep;
         seats = seats_K s p q r Y (after e) (did e) K w i laws ofb dep act;
         rewriting = rewriting_K s p q r Y (after e) (did e) K w i laws ofb dep act;
         of_book = of_book_K s p q r Y (after e) (did e) K w i laws ofb dep act;

@@ -12,4 +12,4 @@ returns-in_err-check-clause-rewrites c =
 
 pub returns-clause-rewrites : goal.returns-clause-rewrites
 returns-clause-rewrites c = λ K i w laws ofb dep act.
-    rewrote_somewhere K c.args.self.now c.replace.new.self c.args.left c.args.right i w c.replace.result (c.replace.ensures K i w laws ofb dep act).0
+    rewrote_somewhere K c.args.self.now c.replace.new.self c.args.left c.args.right i w c.replace.result.items (c.replace.ensures K i w laws ofb dep act).0

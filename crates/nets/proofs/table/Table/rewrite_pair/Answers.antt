@@ -14,6 +14,6 @@ returns-clause-rewrites g c =
     let laws = g.met.B.Book.lawful c.args.book.now in
     let C = c.in_ok-rule.ensures.0 in
     λ ofb P at act.
-    subst (λ (Q : Pair). RewroteAt K c.args.self.now Q c.replace.result c.replace.new.self)
+    subst (λ (Q : Pair). RewroteAt K c.args.self.now Q c.replace.result.items c.replace.new.self)
     (same_pair K laws c.args.self.now c.args.left c.args.right c.in_ok-rule.rule.now C P at act)
     (c.replace.ensures K C.position C.rule laws ofb C.depicts C.ready.active).0
