@@ -8,7 +8,8 @@ use Rattle.std.proofs.lemmas.Bool.{cases_eq, both_ways}
 use Rattle.refusals.specs.declared.faults.TextFault.{TextFault}
 use Rattle.terms.specs.Letters.{WordAt, ReadAt, capital}
 use Rattle.terms.specs.Bindings.{Meaning, variable, listed, nothing}
-use Rattle.terms.specs.Tallying.{Uses, FaultOf, Before, Sums}
+use Rattle.terms.specs.Tallying.{Uses, FaultOf, Before, Sums, Tallied}
+use Rattle.terms.specs.declared.tally.Tally.{Tally}
 use Rattle.terms.proofs.Words.{one_reading, word_read}
 use Rattle.terms.proofs.Wrongs.{old_or_new, fault_same, fault_again, fault_nothing, things_push}
 
@@ -43,6 +44,11 @@ module _ (us : Uses) (m : Meaning) (q : ℕ) (before : Before us q) where
 
   flag_kept : (b : Bool) (n : Meaning) → m ≢ n → Decides b (InUses us n) → Decides b (InUses (us ++ (m, q) ∷ []) n)
   flag_kept b n d h = ((λ e. in_kept n (h.0 e)), λ i. h.1 (in_old n d i))
+
+-- what a tally is said to come to, by what it is
+pub tallied_by : (text : List ℕ) (us : Uses) (t : Tally) (used : List Bool) (items : List ℕ) (f : Option TextFault) → t.used ≡ used → t.items.items ≡ items → t.fault ≡ f → Sums text us used items f → Tallied text us t
+tallied_by text us t used items f u i w h =
+    subst (λ x. Sums text us x t.items.items t.fault) (sym u) (subst (λ x. Sums text us used x t.fault) (sym i) (subst (λ x. Sums text us used items x) (sym w) h))
 
 -- a name without an abstraction
 pub sums_nothing : (text : List ℕ) (us : Uses) (used : List Bool) (items : List ℕ) (f : Option TextFault) (q : ℕ) → Before us q →

@@ -111,10 +111,15 @@ opened stuck = []
 abbrev pub Shows : Scanner → State → Type 0
 Shows c s = Moded c.mode s × (c.arguments.items ≡ flags (opened s))
 
--- what a step to the state s answers, and what it leaves
-abbrev pub Came : Bool → Scanner → State → Type 0
-Came true c s = Shows c s
-Came false c s = s ≡ stuck
+-- the mode that a step to the state s answers, and what the step leaves
+abbrev pub Came : Option Mode → Scanner → State → Type 0
+Came (Some m) c s = Moded m s × (c.arguments.items ≡ flags (opened s))
+Came None c s = s ≡ stuck
+
+-- whether a step to the state s is taken, and what it leaves
+abbrev pub Stepped : Option Unit → Scanner → State → Type 0
+Stepped (Some u) c s = Shows c s
+Stepped None c s = s ≡ stuck
 
 -- whether the text may end in the state s
 abbrev pub Ending : Bool → State → Type 0

@@ -1,5 +1,5 @@
 // A list of items.
-ghost use Rattle.std.specs.Prelude.{◌≡◌, ℕ, ◌<◌, ◌≤◌, length, vec_len, vec_capacity};
+ghost use Rattle.std.specs.Prelude.{◌≤◌, vec_len, vec_capacity};
 ghost use Rattle.terms.specs.Spelling.{Apart};
 
 use crate::item::Item;

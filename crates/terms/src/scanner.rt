@@ -4,7 +4,7 @@ ghost use Rattle.std.specs.Prelude.{◌≤◌, length};
 use arrayvec::ArrayVec;
 
 /// The kind of a word that is being read: the name of an abstraction, a bound name or an item.
-#[derive(Clone, Copy, PartialEq, Eq)]
+#[derive(Clone, Copy, PartialEq, Eq, Debug)]
 pub enum Kind {
     Binder,
     Name,
@@ -12,7 +12,7 @@ pub enum Kind {
 }
 
 /// How far the reading has come: a term is due, so many letters of a word are read, or a term was read.
-#[derive(Clone, Copy, PartialEq, Eq)]
+#[derive(Clone, Copy, PartialEq, Eq, Debug)]
 pub enum Mode {
     Term,
     Spelling(Kind, u8),

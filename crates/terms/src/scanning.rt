@@ -3,7 +3,7 @@ ghost use Rattle.std.specs.Prelude.{◌≡◌, ℕ, ◌<◌, ◌≤◌, false, L
 ghost use Rattle.arrayvec.specs.ArrayVec.{array_vec_len};
 ghost use Rattle.terms.specs.Letters.{letter};
 ghost use Rattle.terms.specs.Named.{Named};
-ghost use Rattle.terms.specs.Scanning.{Frame, State, want, followed, spaced, closed, step, flags, first_letter, spelling, Shows, Came, Ending, Scanned};
+ghost use Rattle.terms.specs.Scanning.{Frame, State, want, followed, spaced, closed, step, flags, first_letter, spelling, Shows, Came, Stepped, Ending, Scanned};
 
 use crate::letters::is_letter;
 use crate::scanner::{Kind, Mode, Scanner};
@@ -16,15 +16,11 @@ pub(crate) fn find_fault(text: &[u8]) -> Option<u32>
 {
     let mut scanner = Scanner::new();
     for (i, byte) in text.iter().enumerate() {
-        if !scanner.step(*byte) {
+        if scanner.step(*byte).is_none() {
             return Some(i as u32);
         }
     }
-    if scanner.is_whole() {
-        None
-    } else {
-        Some(text.len() as u32)
-    }
+    (!scanner.is_whole()).then_some(text.len() as u32)
 }
 
 impl Kind {
@@ -61,90 +57,83 @@ impl Scanner {
         }
     }
 
-    // Reads one byte more; no where no text of the grammar goes on so.
-    fn step(&mut self, byte: u8) -> bool
+    // Reads one byte more; none where no text of the grammar goes on so.
+    fn step(&mut self, byte: u8) -> Option<()>
         requires { array_vec_len self.old.arguments < 8192 }
-        ensures { (s : State) → Shows self.old s → Came result self.new (step s byte) }
+        ensures { (s : State) → Shows self.old s → Stepped result self.new (step s byte) }
     {
-        match self.mode {
-            Mode::Term => self.begin(byte),
-            Mode::Spelling(word, letters) => self.spell(word, letters, byte),
-            Mode::Done => self.follow(byte),
-        }
+        self.mode = match self.mode {
+            Mode::Term => self.begin(byte)?,
+            Mode::Spelling(word, letters) => self.spell(word, letters, byte)?,
+            Mode::Done => self.follow(byte)?,
+        };
+        Some(())
     }
 
     // Reads the first byte of a term.
-    fn begin(&mut self, byte: u8) -> bool
+    fn begin(&mut self, byte: u8) -> Option<Mode>
         requires { array_vec_len self.old.arguments < 8192 }
         ensures { (ks : List Frame) → self.old.arguments.items ≡ flags ks → Came result self.new (step (want ks) byte) }
     {
-        self.mode = match byte {
-            b'\\' => Mode::Spelling(Kind::Binder, 0),
+        match byte {
+            b'\\' => Some(Mode::Spelling(Kind::Binder, 0)),
             b'(' => {
                 self.arguments.push(false);
-                Mode::Term
+                Some(Mode::Term)
             }
-            b'a'..=b'z' => Mode::Spelling(Kind::Name, 1),
-            b'A'..=b'Z' => Mode::Spelling(Kind::Item, 1),
-            _ => return false,
-        };
-        true
+            b'a'..=b'z' => Some(Mode::Spelling(Kind::Name, 1)),
+            b'A'..=b'Z' => Some(Mode::Spelling(Kind::Item, 1)),
+            _ => None,
+        }
     }
 
     // Reads a byte of a word, of which some letters are read, or the one after it.
-    fn spell(&mut self, word: Kind, letters: u8, byte: u8) -> bool
+    fn spell(&mut self, word: Kind, letters: u8, byte: u8) -> Option<Mode>
         ensures { (w : List ℕ) (ks : List Frame) → letters ≡ length w → self.old.arguments.items ≡ flags ks → Came result self.new (step (spelling word w ks) byte) }
     {
         if !is_letter(byte, word.first_letter()) {
             return self.end_word(word, letters, byte);
         }
-        if letters >= 8 {
-            return false;
-        }
-        self.mode = Mode::Spelling(word, letters + 1);
-        true
+        (letters < 8).then(|| Mode::Spelling(word, letters + 1))
     }
 
     // Reads the byte after a word, of which some letters are read.
-    fn end_word(&mut self, word: Kind, letters: u8, byte: u8) -> bool
+    fn end_word(&mut self, word: Kind, letters: u8, byte: u8) -> Option<Mode>
         requires { letter (first_letter word) byte ≡ false }
         ensures { (w : List ℕ) (ks : List Frame) → letters ≡ length w → self.old.arguments.items ≡ flags ks → Came result self.new (step (spelling word w ks) byte) }
     {
         if word != Kind::Binder {
             return self.follow(byte);
         }
-        self.mode = Mode::Term;
-        byte == b'.' && letters > 0
+        (byte == b'.' && letters > 0).then_some(Mode::Term)
     }
 
     // Reads the byte after a term.
-    fn follow(&mut self, byte: u8) -> bool
+    fn follow(&mut self, byte: u8) -> Option<Mode>
         ensures { (t : Named) (ks : List Frame) → self.old.arguments.items ≡ flags ks → Came result self.new (followed t ks byte) }
     {
         match byte {
             b' ' => self.space(),
             b')' => self.close(),
-            _ => false,
+            _ => None,
         }
     }
 
-    // Goes on to the argument of the innermost open application; no where its function was read already.
-    fn space(&mut self) -> bool
+    // Goes on to the argument of the innermost open application; none where its function was read already.
+    fn space(&mut self) -> Option<Mode>
         ensures { (t : Named) (ks : List Frame) → self.old.arguments.items ≡ flags ks → Came result self.new (spaced t ks) }
     {
         if self.arguments.pop() != Some(false) {
-            return false;
+            return None;
         }
         self.arguments.push(true);
-        self.mode = Mode::Term;
-        true
+        Some(Mode::Term)
     }
 
-    // Closes the innermost open application; no where its argument was not read.
-    fn close(&mut self) -> bool
+    // Closes the innermost open application; none where its argument was not read.
+    fn close(&mut self) -> Option<Mode>
         ensures { (t : Named) (ks : List Frame) → self.old.arguments.items ≡ flags ks → Came result self.new (closed t ks) }
     {
-        self.mode = Mode::Done;
-        self.arguments.pop() == Some(true)
+        (self.arguments.pop() == Some(true)).then_some(Mode::Done)
     }
 }

@@ -1,5 +1,4 @@
 // A survey of a whole text: every check, and no allocation.
-ghost use Rattle.std.specs.Prelude.{◌≡◌};
 ghost use Rattle.terms.specs.Texts.{Surveyed, OneAnswer};
 ghost use Rattle.terms.specs.Unused.{UnusedFound};
 

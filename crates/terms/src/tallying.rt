@@ -1,5 +1,6 @@
 // How uses are tallied.
-ghost use Rattle.std.specs.Prelude.{ℕ, ◌<◌, List, [], IfSome};
+ghost use Rattle.std.specs.Prelude.{◌≡◌, ℕ, ◌<◌, List, [], Some, IfSome};
+ghost use Rattle.std.specs.Option.{option_or};
 ghost use Rattle.arrayvec.specs.ArrayVec.{array_vec_len};
 ghost use Rattle.terms.specs.Bindings.{variable, listed, nothing};
 ghost use Rattle.terms.specs.Letters.{WordAt, capital};
@@ -33,11 +34,20 @@ impl Tally {
         }
     }
 
+    // Notes a wrong use, if it is the first.
+    fn note_fault(&mut self, fault: TextFault)
+        ensures fault { self.new.fault ≡ option_or self.old.fault (Some fault) }
+        ensures used { self.new.used ≡ self.old.used }
+        ensures items { self.new.items.items ≡ self.old.items.items }
+    {
+        self.fault = self.fault.or(Some(fault));
+    }
+
     // Notes a bound name that has no abstraction.
     fn note_unbound(&mut self, at: u32)
         ensures { (text : List ℕ) → Noted text nothing at self.old self.new }
     {
-        self.fault = self.fault.or(Some(TextFault::Unbound(at)));
+        self.note_fault(TextFault::Unbound(at));
     }
 
     // Notes a use of the variable of the abstraction whose name stands at a place.
@@ -48,7 +58,7 @@ impl Tally {
         let again = self.used[binder as usize];
         self.used[binder as usize] = true;
         if again {
-            self.fault = self.fault.or(Some(TextFault::UsedTwice(at)));
+            self.note_fault(TextFault::UsedTwice(at));
         }
     }
 
@@ -61,7 +71,7 @@ impl Tally {
         let again = find_item(text, &self.items, item);
         self.items.push(at);
         if again {
-            self.fault = self.fault.or(Some(TextFault::UsedTwice(at as u32)));
+            self.note_fault(TextFault::UsedTwice(at as u32));
         }
     }
 }

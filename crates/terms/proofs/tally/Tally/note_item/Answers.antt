@@ -1,12 +1,10 @@
-use Rattle.std.proofs.Common.{Some, [], ◌∷◌, ◌++◌, sym, subst, arith}
+use Rattle.std.proofs.Common.{[], ◌∷◌, ◌++◌, length, sym, ap, ◌∙◌, subst, arith}
 use Rattle.std.specs.List.{Any}
-use Rattle.std.specs.Option.{option_or}
 use Rattle.std.proofs.lemmas.Bool.{both_ways}
-use Rattle.refusals.specs.declared.faults.TextFault.{TextFault}
 use Rattle.terms.specs.Letters.{ReadAt, capital}
 use Rattle.terms.specs.Bindings.{listed}
 use Rattle.terms.specs.Tallying.{Sums}
-use Rattle.terms.proofs.Tallies.{sums_item_new, sums_item_again}
+use Rattle.terms.proofs.Tallies.{tallied_by, sums_item_new, sums_item_again}
 use Rattle.terms.proofs.tally.Tally.note_item.Goals as goal
 
 pub returns-then-again : goal.returns-then-again
@@ -16,10 +14,10 @@ returns-then-again c = record {
       let text = c.args.text.now in
       let w = c.args.item.now in
       let listed_before = subst (λ xs. Any (λ p. ReadAt text p capital w) xs) c.deref.ensures.0 (c.find_item-again.ensures.0 c.if-again.true) in
-      subst (λ f. Sums text (us ++ (listed w, c.args.at) ∷ []) t.used c.push.new.self.items f) (sym c.or-self.ensures)
-      (subst (λ xs. Sums text (us ++ (listed w, c.args.at) ∷ []) t.used xs (option_or t.fault (Some (TextFault.UsedTwice c.args.at)))) (sym c.push.ensures.items)
-      (sums_item_again text us t.used t.items.items t.fault c.args.at b h w c.requires.here listed_before));
-  counted = omega (arith, c.push.ensures.len);
+      let e = c.note_fault.ensures in
+      tallied_by text _ c.note_fault.new.self _ _ _ e.used (e.items ∙ c.push.ensures.items) e.fault
+      (sums_item_again text us t.used t.items.items t.fault c.args.at b h w c.requires.here listed_before);
+  counted = let e = ap length c.note_fault.ensures.items in omega (arith, e, c.push.ensures.len);
 }
 
 pub returns-else-again : goal.returns-else-again

@@ -1,13 +1,12 @@
-use Rattle.std.proofs.Common.{[], ◌∷◌, ◌++◌, sym, subst, arith}
-use Rattle.terms.specs.Bindings.{nothing}
-use Rattle.terms.specs.Tallying.{Sums}
-use Rattle.terms.proofs.Tallies.{sums_nothing}
+use Rattle.std.proofs.Common.{ap, length, arith}
+use Rattle.terms.proofs.Tallies.{tallied_by, sums_nothing}
 use Rattle.terms.proofs.tally.Tally.note_unbound.Goals as goal
 
 pub returns : goal.returns
 returns c text = record {
   tallied = λ us h b.
       let t = c.args.self.now in
-      subst (λ f. Sums text (us ++ (nothing, c.args.at) ∷ []) t.used t.items.items f) (sym c.or-self.ensures) (sums_nothing text us t.used t.items.items t.fault c.args.at b h);
-  counted = omega arith;
+      let e = c.note_fault.ensures in
+      tallied_by text _ c.note_fault.new.self _ _ _ e.used e.items e.fault (sums_nothing text us t.used t.items.items t.fault c.args.at b h);
+  counted = let e = ap length c.note_fault.ensures.items in omega (arith, e);
 }
