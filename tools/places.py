@@ -18,14 +18,12 @@ KEPT = {"if", "else", "for", "in", "while", "match", "return", "let", "mut", "fn
 
 
 def functions(text):
-    """Each function: its header up to the body, and the body."""
-    for m in re.finditer(r"^[ ]*(?:pub(?:\(crate\))? )?(?:const )?fn (\w+)", text, re.M):
-        rest = text[m.start():]
-        body = re.search(r"^([ ]*)\{(.*?)^\1\}|\{\}$|;$", rest, re.M | re.S)
-        if body and body.group(2):
-            yield m.group(1), rest[: body.start()], body.group(2)
-        elif body:
-            yield m.group(1), rest[: body.start()], ""
+    """Each function: its name, its header up to the body, and the body."""
+    for m in re.finditer(r"^([ ]*)(?:pub(?:\(crate\))? )?(?:const |final )?fn (\w+)", text, re.M):
+        rest = text[m.start() :]
+        body = re.search(r"\{\n(.*?)^%s\}|\{\}$|;$" % m.group(1), rest, re.M | re.S)
+        if body:
+            yield m.group(2), rest[: body.start()], body.group(1) or ""
 
 
 def structs(text):

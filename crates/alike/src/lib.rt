@@ -71,6 +71,7 @@ impl<'a> Pairing<'a> {
     }
 
     // Makes x and y a pair, unless one of them is in another or their kinds differ.
+    // Here and below a yes says that the pairing goes on; a no has one meaning, and an error type would tell no more.
     fn meet(&mut self, x: Row, y: Row) -> bool
         requires { (graph_of self.old.ours).kind x.number ≢ 0 }
         ensures meets { Meets (graph_of self.old.ours) (graph_of self.old.theirs) (pairs self.old) (pairs self.new) x.number y.number result }

@@ -42,6 +42,7 @@ impl<B: Book> Layout<'_, B> {
         ensures { Naming (B.meaning self.now.book) self.now (λ _. Unit {0}) (plan draft.old) (plan draft.new) }
     {
         let head = self.file.head;
+        // spots are numbered in the order of their words
         for i in 0..head.spots() {
             self.name_link(draft, head.spot(i));
         }

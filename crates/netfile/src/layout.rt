@@ -71,6 +71,7 @@ impl<B: Book> Layout<'_, B> {
         ensures { LinksChecked (B.meaning self.now.book) self.now.bytes self.now.head result }
     {
         let head = self.file.head;
+        // spots are numbered in the order of their words
         for i in 0..head.spots() {
             self.check_spot(head.spot(i))?;
         }

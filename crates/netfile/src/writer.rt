@@ -73,6 +73,7 @@ impl Writer<'_> {
         requires { self.old.next + 16 * 1024 ≤ length self.old.out.now }
         ensures { Puts self.old (all_cell_words numbering.now.table.now) self.new }
     {
+        // by number: a table has no iterator over its ends, places and ports
         for place in 0..1024u16 {
             self.put_cell(numbering, place);
         }

@@ -10,8 +10,9 @@ use books::book::Book;
 use books::table::RuleTable;
 
 impl Table {
-    /// Rewrites the active pair of the cells in two places, L first, by the book's rule, and answers where its new cells stand, N1 first. Refused where the places hold no active pair of cells with the book's arities, where there are over 1,073,741,821 loops,
-    /// and where the new cells outnumber the vacant places plus two.
+    /// Rewrites the active pair of the cells in two places, L first, by the book's rule, and answers where its new cells stand, N1 first. Refused where the
+    /// places hold no active pair of cells with the book's arities, where there are over 1,073,741,821 loops, and where the new cells outnumber the vacant
+    /// places plus two.
     pub fn rewrite_pair<B: Book>(
         &mut self,
         book: &B,
@@ -26,6 +27,7 @@ impl Table {
     }
 
     /// What is against the rewrite of the pair in two places, L first, if anything is.
+    // an `Option`, no `Result`: to find a fault is what is asked, and no failure
     pub fn check_pair<B: Book>(&self, book: &B, left: u16, right: u16) -> Option<PairFault>
         ensures { Against (B.meaning book.now) self.now left right result }
     {

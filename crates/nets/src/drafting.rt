@@ -103,6 +103,7 @@ impl Draft {
     }
 
     // Refuses the first spot whose link is at fault.
+    // by number, which is what a fault tells
     fn check(&self) -> Result<(), Spot>
         ensures { Checked (plan self.now) result }
     {

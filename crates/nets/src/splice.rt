@@ -31,6 +31,7 @@ impl Links {
         ensures { Strung self.old.targets.items p g n self.new.targets.items result }
     {
         let mut loops = 0;
+        // each turn changes the links that the next one reads
         for port in (1..=n).rev() {
             loops += self.splice(Link { row: p, port }, Link { row: g, port });
         }

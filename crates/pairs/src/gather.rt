@@ -53,6 +53,7 @@ fn insert(found: &mut ArrayVec<Pair, 4>, pair: Pair)
     ensures { array_vec_len found.old < 4 → found.new.items ≡ put least pair found.old.items }
 {
     let place = place_among(found, pair).unwrap_or(found.len());
+    // no room is no fault: a net that keeps the book's laws forms at most four
     let _ = found.try_insert(place, pair);
 }
 
