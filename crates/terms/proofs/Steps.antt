@@ -1,15 +1,14 @@
 -- One byte more, by a scanner and by the reading that it shows.
-use Rattle.std.proofs.Common.{◌≡◌, ℕ, ◌+◌, ◌<◌, ◌≤◌, Bool, true, false, eqb, List, [], ◌∷◌, ◌++◌, length, Some, None, Option, sym, refl, ap, ◌∙◌, subst, arith}
+use Rattle.std.proofs.Common.{◌≡◌, ℕ, ◌+◌, ◌<◌, ◌≤◌, Bool, true, false, eqb, List, [], ◌∷◌, ◌++◌, length, Option, sym, refl, ap, ◌∙◌, subst, arith}
 use Rattle.std.specs.Bool.{then_some}
-use Rattle.std.specs.Option.{is_some}
 use Rattle.std.proofs.lemmas.List.{length-append}
-use Rattle.std.proofs.lemmas.Bool.{both_ways, cond-true, cond-false, lt-ltb, le-ltb, eqb-true, eqb-false}
+use Rattle.std.proofs.lemmas.Bool.{cond-true, cond-false, lt-ltb, le-ltb, eqb-true, eqb-false}
 use Rattle.terms.specs.declared.scanner.Mode.{Mode}
 use Rattle.terms.specs.declared.scanner.Kind.{Kind}
 use Rattle.terms.specs.declared.scanner.Scanner.{Scanner}
 use Rattle.terms.specs.Letters.{letter}
 use Rattle.terms.specs.Named.{Named, bound, item}
-use Rattle.terms.specs.Scanning.{Frame, State, want, binder, name, thing, done, stuck, step, whole, ended, first_letter, spelling, Moded, opened, flags, closed, Shows, Came, Stepped, Ending}
+use Rattle.terms.specs.Scanning.{Frame, State, want, binder, name, thing, done, stuck, step, whole, ended, first_letter, spelling, Moded, opened, flags, closed, Shows, Came, Ending}
 use Rattle.terms.proofs.Stacks.{ended_some, ended_none, closed_goes, closed_stuck}
 
 -- what is shown of a state is shown of an equal one
@@ -46,8 +45,8 @@ ending_by true s t ks e y n = let p = ended_some t ks (y refl) in (p.0, e ∙ p.
 ending_by false s t ks e y n = e ∙ ended_none t ks (n refl)
 
 -- whether a scanner in no name of an abstraction, and at no place where a term is due, may stop
-pub may_end : (c : Scanner) (s : State) (r : Bool) → r ≡ eqb (length c.arguments.items) 0 → (c.mode ≡ Mode.Term → ⊥) → ((n : ℕ) → c.mode ≡ Mode.Spelling Kind.Binder n → ⊥) → Shows c s → Ending r s
-may_end c s r is f g h = subst (λ b. Ending b s) (sym is) (go s h)
+pub may_end : (m : Mode) (c : Scanner) (s : State) (r : Bool) → r ≡ eqb (length c.arguments.items) 0 → (m ≡ Mode.Term → ⊥) → ((n : ℕ) → m ≡ Mode.Spelling Kind.Binder n → ⊥) → Shows m c s → Ending r s
+may_end m c s r is f g h = subst (λ b. Ending b s) (sym is) (go s h)
   where
     none : (ks : List Frame) → c.arguments.items ≡ flags ks → eqb (length c.arguments.items) 0 ≡ true → length (flags ks) ≡ 0
     none ks q e = ap length (sym q) ∙ eqb-true (length c.arguments.items) 0 e
@@ -55,7 +54,7 @@ may_end c s r is f g h = subst (λ b. Ending b s) (sym is) (go s h)
     some : (ks : List Frame) → c.arguments.items ≡ flags ks → eqb (length c.arguments.items) 0 ≡ false → length (flags ks) ≡ 0 → ⊥
     some ks q e z = eqb-false (length c.arguments.items) 0 e (ap length q ∙ z)
 
-    go : (t : State) → Shows c t → Ending (eqb (length c.arguments.items) 0) t
+    go : (t : State) → Shows m c t → Ending (eqb (length c.arguments.items) 0) t
     go (want ks) k = absurd (f k.0)
     go (binder w ks) k = absurd (g (length w) k.0)
     go (name w ks) k = ending_by _ (name w ks) (bound w) ks refl (none ks k.1) (some ks k.1)
@@ -63,31 +62,14 @@ may_end c s r is f g h = subst (λ b. Ending b s) (sym is) (go s h)
     go (done t ks) k = ending_by _ (done t ks) t ks refl (none ks k.1) (some ks k.1)
     go stuck k = absurd k.0
 
--- what a scanner shows where a term is due, and where one was read
-pub shown_term : (c : Scanner) (s : State) → c.mode ≡ Mode.Term → Shows c s → (ks : List Frame) × (s ≡ want ks) × (c.arguments.items ≡ flags ks)
-shown_term c (want ks) e h = (ks, refl, h.1)
-shown_term c (binder w ks) e h = absurd (let z : ◌≡◌ {A = ℕ} 0 1 = cc in omega arith)
-shown_term c (name w ks) e h = absurd (let z : ◌≡◌ {A = ℕ} 0 1 = cc in omega arith)
-shown_term c (thing w ks) e h = absurd (let z : ◌≡◌ {A = ℕ} 0 1 = cc in omega arith)
-shown_term c (done t ks) e h = absurd (let z : ◌≡◌ {A = ℕ} 0 1 = cc in omega arith)
-shown_term c stuck e h = absurd h.0
-
-pub shown_done : (c : Scanner) (s : State) → c.mode ≡ Mode.Done → Shows c s → (t : Named) × (ks : List Frame) × (s ≡ done t ks) × (c.arguments.items ≡ flags ks)
-shown_done c (want ks) e h = absurd (let z : ◌≡◌ {A = ℕ} 0 1 = cc in omega arith)
-shown_done c (binder w ks) e h = absurd (let z : ◌≡◌ {A = ℕ} 0 1 = cc in omega arith)
-shown_done c (name w ks) e h = absurd (let z : ◌≡◌ {A = ℕ} 0 1 = cc in omega arith)
-shown_done c (thing w ks) e h = absurd (let z : ◌≡◌ {A = ℕ} 0 1 = cc in omega arith)
-shown_done c (done t ks) e h = (t, ks, refl, h.1)
-shown_done c stuck e h = absurd h.0
-
 -- what a scanner in a word shows
-pub shown_word : (c : Scanner) (s : State) (k : Kind) (n : ℕ) → c.mode ≡ Mode.Spelling k n → Shows c s → (w : List ℕ) × (ks : List Frame) × (s ≡ spelling k w ks) × (n ≡ length w) × (c.arguments.items ≡ flags ks)
-shown_word c (want ks) k n e h = absurd (let z : ◌≡◌ {A = ℕ} 0 1 = cc in omega arith)
-shown_word c (binder w ks) k n e h = let same : Kind.Binder ≡ k = cc in (w, ks, ap (λ j. spelling j w ks) same, cc, h.1)
-shown_word c (name w ks) k n e h = let same : Kind.Name ≡ k = cc in (w, ks, ap (λ j. spelling j w ks) same, cc, h.1)
-shown_word c (thing w ks) k n e h = let same : Kind.Item ≡ k = cc in (w, ks, ap (λ j. spelling j w ks) same, cc, h.1)
-shown_word c (done t ks) k n e h = absurd (let z : ◌≡◌ {A = ℕ} 0 1 = cc in omega arith)
-shown_word c stuck k n e h = absurd h.0
+pub shown_word : (m : Mode) (c : Scanner) (s : State) (k : Kind) (n : ℕ) → m ≡ Mode.Spelling k n → Shows m c s → (w : List ℕ) × (ks : List Frame) × (s ≡ spelling k w ks) × (n ≡ length w) × (c.arguments.items ≡ flags ks)
+shown_word m c (want ks) k n e h = absurd (let z : ◌≡◌ {A = ℕ} 0 1 = cc in omega arith)
+shown_word m c (binder w ks) k n e h = let same : Kind.Binder ≡ k = cc in (w, ks, ap (λ j. spelling j w ks) same, cc, h.1)
+shown_word m c (name w ks) k n e h = let same : Kind.Name ≡ k = cc in (w, ks, ap (λ j. spelling j w ks) same, cc, h.1)
+shown_word m c (thing w ks) k n e h = let same : Kind.Item ≡ k = cc in (w, ks, ap (λ j. spelling j w ks) same, cc, h.1)
+shown_word m c (done t ks) k n e h = absurd (let z : ◌≡◌ {A = ℕ} 0 1 = cc in omega arith)
+shown_word m c stuck k n e h = absurd h.0
 
 -- a bracket that closes the innermost open application, or does not
 pub closed_by : (m : Option Mode) (r : Bool) (c : Scanner) (t : Named) (ks : List Frame) → m ≡ then_some r Mode.Done → (r ≡ true → flags ks ≡ c.arguments.items ++ true ∷ []) → (r ≡ false → (zs : List Bool) → flags ks ≡ zs ++ true ∷ [] → ⊥) → Came m c (closed t ks)
@@ -97,19 +79,6 @@ closed_by m r c t ks e y n = subst (λ x. Came x c (closed t ks)) (sym e) (go r 
     go true f g = let h = closed_goes t ks c.arguments.items (f refl) in shown_by Mode.Done c.arguments.items (closed t ks) (done h.0 h.1) h.2 refl h.3
     go false f g = closed_stuck t ks (g refl)
 
--- a step that is taken, and one that is not
-pub step_taken : (r : Option Unit) (c : Scanner) (s : State) → is_some r ≡ true → Stepped r c s → Shows c s
-step_taken (Some u) c s e h = h
-step_taken None c s e h = absurd (both_ways _ refl e)
-
-pub step_refused : (r : Option Unit) (c : Scanner) (s : State) → is_some r ≡ false → Stepped r c s → s ≡ stuck
-step_refused (Some u) c s e h = absurd (both_ways _ e refl)
-step_refused None c s e h = h
-
--- what a step answers and leaves, by what is equal to each
-pub came_by : (m n : Mode) (c d : Scanner) (s r : State) → m ≡ n → c ≡ d → s ≡ r → Came (Some n) d r → Came (Some m) c s
-came_by m n c d s r e f g h = subst (λ x. Came (Some x) c s) (sym e) (subst (λ x. Came (Some n) x s) (sym f) (subst (Came (Some n) d) (sym g) h))
-
 -- what a scanner shows is not stuck
-pub shown_live : (c : Scanner) (s : State) → Shows c s → s ≡ stuck → ⊥
-shown_live c s h e = subst (λ z. Moded c.mode z) e h.0
+pub shown_live : (m : Mode) (c : Scanner) (s : State) → Shows m c s → s ≡ stuck → ⊥
+shown_live m c s h e = subst (λ z. Moded m z) e h.0

@@ -108,18 +108,13 @@ opened (thing w ks) = ks
 opened (done t ks) = ks
 opened stuck = []
 
-abbrev pub Shows : Scanner → State → Type 0
-Shows c s = Moded c.mode s × (c.arguments.items ≡ flags (opened s))
+abbrev pub Shows : Mode → Scanner → State → Type 0
+Shows m c s = Moded m s × (c.arguments.items ≡ flags (opened s))
 
 -- the mode that a step to the state s answers, and what the step leaves
 abbrev pub Came : Option Mode → Scanner → State → Type 0
-Came (Some m) c s = Moded m s × (c.arguments.items ≡ flags (opened s))
+Came (Some m) c s = Shows m c s
 Came None c s = s ≡ stuck
-
--- whether a step to the state s is taken, and what it leaves
-abbrev pub Stepped : Option Unit → Scanner → State → Type 0
-Stepped (Some u) c s = Shows c s
-Stepped None c s = s ≡ stuck
 
 -- whether the text may end in the state s
 abbrev pub Ending : Bool → State → Type 0

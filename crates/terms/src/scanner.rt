@@ -19,10 +19,9 @@ pub enum Mode {
     Done,
 }
 
-/// A reader that has come to some byte of a text: its mode, and for each open application, the outermost first, whether its function was read.
+/// A reader that has come to some byte of a text: for each open application, the outermost first, whether its function was read.
 #[derive(Drop)]
 pub struct Scanner {
-    pub(crate) mode: Mode,
     pub(crate) arguments: ArrayVec<bool, 8192>,
     ghost inside: { length arguments.items ≤ 8192 },
 }

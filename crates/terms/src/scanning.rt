@@ -3,7 +3,8 @@ ghost use Rattle.std.specs.Prelude.{◌≡◌, ℕ, ◌<◌, ◌≤◌, false, L
 ghost use Rattle.arrayvec.specs.ArrayVec.{array_vec_len};
 ghost use Rattle.terms.specs.Letters.{letter};
 ghost use Rattle.terms.specs.Named.{Named};
-ghost use Rattle.terms.specs.Scanning.{Frame, State, want, followed, spaced, closed, step, flags, first_letter, spelling, Shows, Came, Stepped, Ending, Scanned};
+ghost use Rattle.terms.specs.declared.scanner.Mode.{Mode};
+ghost use Rattle.terms.specs.Scanning.{Frame, State, want, followed, spaced, closed, step, flags, first_letter, spelling, Shows, Came, Ending, Scanned};
 
 use crate::letters::is_letter;
 use crate::scanner::{Kind, Mode, Scanner};
@@ -15,12 +16,15 @@ pub(crate) fn find_fault(text: &[u8]) -> Option<u32>
     ensures { Scanned text.now result }
 {
     let mut scanner = Scanner::new();
+    // beside the scanner, so that it stays in a register
+    let mut mode = Mode::Term;
     for (i, byte) in text.iter().enumerate() {
-        if scanner.step(*byte).is_none() {
+        let Some(next) = scanner.step(mode, *byte) else {
             return Some(i as u32);
-        }
+        };
+        mode = next;
     }
-    (!scanner.is_whole()).then_some(text.len() as u32)
+    (!scanner.is_whole(mode)).then_some(text.len() as u32)
 }
 
 impl Kind {
@@ -38,36 +42,34 @@ impl Kind {
 impl Scanner {
     // A scanner before the first byte.
     fn new() -> Scanner
-        ensures { Shows result (want []) }
+        ensures { Shows Mode.Term result (want []) }
     {
         Scanner {
-            mode: Mode::Term,
             arguments: ArrayVec::new(),
         }
     }
 
     // Whether the text may end here.
-    fn is_whole(&self) -> bool
-        ensures { (s : State) → Shows self.now s → Ending result s }
+    fn is_whole(&self, mode: Mode) -> bool
+        ensures { (s : State) → Shows mode self.now s → Ending result s }
     {
-        match self.mode {
+        match mode {
             Mode::Term => false,
             Mode::Spelling(word, _) => word != Kind::Binder && self.arguments.is_empty(),
             Mode::Done => self.arguments.is_empty(),
         }
     }
 
-    // Reads one byte more; none where no text of the grammar goes on so.
-    fn step(&mut self, byte: u8) -> Option<()>
+    // Reads one byte more, and answers the mode after it; none where no text of the grammar goes on so.
+    fn step(&mut self, mode: Mode, byte: u8) -> Option<Mode>
         requires { array_vec_len self.old.arguments < 8192 }
-        ensures { (s : State) → Shows self.old s → Stepped result self.new (step s byte) }
+        ensures { (s : State) → Shows mode self.old s → Came result self.new (step s byte) }
     {
-        self.mode = match self.mode {
-            Mode::Term => self.begin(byte)?,
-            Mode::Spelling(word, letters) => self.spell(word, letters, byte)?,
-            Mode::Done => self.follow(byte)?,
-        };
-        Some(())
+        match mode {
+            Mode::Term => self.begin(byte),
+            Mode::Spelling(word, letters) => self.spell(word, letters, byte),
+            Mode::Done => self.follow(byte),
+        }
     }
 
     // Reads the first byte of a term.
