@@ -1,12 +1,12 @@
 -- What a draft that is filled from a file holds.
 use Rattle.std.proofs.Common.{◌≡◌, take, ℕ, ◌+◌, ◌<◌, true, ltb, leb, ◌⊎◌, List, get_or, Some, None, sym, refl, ap, ◌∙◌, subst, subst₂, inl, inr, arith}
 use Rattle.std.proofs.lemmas.List.{get_or-take}
-use Rattle.std.proofs.lemmas.Bool.{lt-ltb, le-leb, ltb-true, leb-true, and_from, and_parts, cases_eq}
+use Rattle.std.proofs.lemmas.Bool.{lt-ltb, le-leb, ltb-true, leb-true, and_from, and_parts}
 use Rattle.calculus.specs.Spots.{Spot, end, port}
-use Rattle.calculus.specs.Books.{RuleBook, Laws}
-use Rattle.nets.specs.Drafts.{Plan, planned, nameable, CellAdded, LinkNamed, cell_fault, link_fault}
-use Rattle.nets.proofs.Attempts.{cell_free, link_free}
-use Rattle.netfile.specs.Words.{cell_word, word}
+use Rattle.calculus.specs.Books.{RuleBook}
+use Rattle.nets.specs.Drafts.{Plan, planned, nameable, LinkNamed, link_fault}
+use Rattle.nets.proofs.Attempts.{link_free}
+use Rattle.netfile.specs.Words.{cell_word}
 use Rattle.netfile.specs.Faults.{IsCell, CellDue, Nameable, Names, LinkDue}
 use Rattle.netfile.specs.Reading.{Sound}
 use Rattle.netfile.specs.Passes.{Laid}
@@ -55,30 +55,6 @@ module _ (K : RuleBook) {B : Type 0} (l : LayoutView B) (laid : Laid K l.bytes l
 
   pub cell_known : (i : ℕ) → i < c → (a : ℕ) × IsCell K bs (get_or starts i 0) a
   cell_known i less = let q = earlier K bs e c (laid.begins i less) laid.whole less in (q.0, q.1)
-
-  pub cell_room : Laws K → (i k a : ℕ) (p : Plan) → i < c → Celled K l i p → K.arity k ≡ Some a → cell_fault p a ≡ None
-  cell_room laws i k a p less before f = cell_free p a (omega (arith, before.cells, h.small)) (laws.kinds k a f).1
-
-  pub celled_more : (i k a : ℕ) (p q : Plan) → Celled K l i p → CellAdded p k a q → word bs (get_or starts i 0) ≡ cell_word k → K.arity k ≡ Some a → Celled K l (i + 1) q
-  celled_more i k a p q before added is f = record {
-    ends = added.ends ∙ before.ends;
-    loops = added.loops ∙ before.loops;
-    cells = added.cells ∙ ap (λ n. n + 1) before.cells;
-    kinds = λ r less. elim (cases_eq r i) [
-      | inl s ↦ let same : q.kind r ≡ k = ap q.kind (s ∙ sym before.cells) ∙ added.kind in subst₂ (λ m n. word bs (get_or starts m 0) ≡ cell_word n) (sym s) (sym same) is
-      | inr n ↦ let same : q.kind r ≡ p.kind r = added.kinds r (λ t. n (t ∙ before.cells)) in before.kinds r (omega arith) ∙ ap cell_word (sym same)
-    ];
-    arities = λ r less. elim (cases_eq r i) [
-      | inl s ↦
-          let same : q.kind r ≡ k = ap q.kind (s ∙ sym before.cells) ∙ added.kind in
-          let g : q.arity r ≡ a = ap q.arity (s ∙ sym before.cells) ∙ added.arity in
-          ap K.arity same ∙ f ∙ ap Some (sym g)
-      | inr n ↦
-          let same : q.kind r ≡ p.kind r = added.kinds r (λ t. n (t ∙ before.cells)) in
-          let g : q.arity r ≡ p.arity r = added.arities r (λ t. n (t ∙ before.cells)) in
-          ap K.arity same ∙ before.arities r (omega arith) ∙ ap Some (sym g)
-    ];
-  }
 
   module _ (p : Plan) (all : Celled K l h.cells p) where
     -- the spots of the plan are those of the file

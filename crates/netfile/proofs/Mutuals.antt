@@ -1,5 +1,5 @@
 -- Links that are mutual or not, in a file whose words are all right.
-use Rattle.std.proofs.Common.{◌≡◌, ℕ, ◌+◌, ◌*◌, ◌<◌, ◌≤◌, Bool, false, leb, ◌≢◌, ◌⊎◌, ◌↔◌, IsTrue, List, get_or, Some, None, Ok, Err, Result, MatchResult, sym, refl, subst, inl, inr, arith}
+use Rattle.std.proofs.Common.{◌≡◌, ℕ, ◌+◌, ◌*◌, ◌<◌, ◌≤◌, Bool, false, leb, ◌≢◌, ◌⊎◌, ◌↔◌, IsTrue, List, get_or, Some, None, Ok, Err, Result, IsOk, MatchResult, sym, refl, subst, inl, inr, arith}
 use Rattle.std.proofs.lemmas.Bool.{false≢true, cases_lt, le-leb, lt-leb}
 use Rattle.std.proofs.lemmas.Option.{none-some}
 use Rattle.std.specs.Bool.{then_some}
@@ -31,7 +31,7 @@ at_injective (End a) (Port i j) s = cc
 at_injective (Port i j) (End b) s = cc
 at_injective (Port i j) (Port k l) s = cc
 
-pub no_cell : (K : RuleBook) (bs : List ℕ) (w : ℕ) (f : FileFault) → NoCell K bs w f → (a : ℕ) → IsCell K bs w a → ⊥
+no_cell : (K : RuleBook) (bs : List ℕ) (w : ℕ) (f : FileFault) → NoCell K bs w f → (a : ℕ) → IsCell K bs w a → ⊥
 no_cell K bs w FileFault.NoRoom none a is = none
 no_cell K bs w FileFault.Length none a is = none
 no_cell K bs w (FileFault.Header v) none a is = none
@@ -39,13 +39,23 @@ no_cell K bs w (FileFault.BadCell v) none a is = none.2 a is
 no_cell K bs w (FileFault.BadLink v) none a is = none
 no_cell K bs w (FileFault.Words v) none a is = omega (arith, none.1, is.0)
 
-pub no_link : (bs : List ℕ) (h : Head) (w : ℕ) (f : FileFault) → NoLink bs h w f → (y : Spot) → Names bs h.ends h.cells w y → ⊥
+-- a cell that is there is read
+pub cell_ok : (K : RuleBook) (bs : List ℕ) (w : ℕ) (r : Result Cell FileFault) → CellRead K bs w r → (a : ℕ) → IsCell K bs w a → IsOk r
+cell_ok K bs w (Ok x) read a is = refl
+cell_ok K bs w (Err f) read a is = absurd (no_cell K bs w f read a is)
+
+no_link : (bs : List ℕ) (h : Head) (w : ℕ) (f : FileFault) → NoLink bs h w f → (y : Spot) → Names bs h.ends h.cells w y → ⊥
 no_link bs h w FileFault.NoRoom none y names = none
 no_link bs h w FileFault.Length none y names = none
 no_link bs h w (FileFault.Header v) none y names = none
 no_link bs h w (FileFault.BadCell v) none y names = none
 no_link bs h w (FileFault.BadLink v) none y names = none.2 y names
 no_link bs h w (FileFault.Words v) none y names = omega (arith, none.1, names.0)
+
+-- a link that is there is read
+pub link_ok : (bs : List ℕ) (h : Head) (w : ℕ) (r : Result Seen FileFault) → LinkRead bs h w r → (y : Spot) → Names bs h.ends h.cells w y → IsOk r
+link_ok bs h w (Ok z) read y names = refl
+link_ok bs h w (Err f) read y names = absurd (no_link bs h w f read y names)
 
 module _ (K : RuleBook) (bs : List ℕ) (h : Head) where
   abbrev e : ℕ

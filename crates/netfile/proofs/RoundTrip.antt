@@ -1,8 +1,8 @@
--- What was written is read back, and what was read is written back.
+-- What was written is read back.
 use Rattle.std.proofs.Common.{Ok, Err, sym, ◌∙◌}
 use Rattle.nets.specs.Meaning.{net}
 use Rattle.refusals.specs.declared.memory.OrMemory.{OrMemory}
-use Rattle.netfile.specs.RoundTrip.{ReadsWhatWasWritten, WritesWhatWasRead}
+use Rattle.netfile.specs.RoundTrip.{ReadsWhatWasWritten}
 use Rattle.netfile.specs.Words.{bytes_of}
 use Rattle.netfile.specs.Writing.{words_of}
 use Rattle.netfile.proofs.Words.{bytes_below}
@@ -14,6 +14,3 @@ pub reads_back : ReadsWhatWasWritten
 reads_back K laws t b (Ok u) a = one_net K laws (net t) (net u) (table_storable K t b) a.storable (sym (file_of K t b) ∙ sym a.file)
 reads_back K laws t b (Err (OrMemory.Fault f)) a = (one_answer K laws (bytes_of (words_of K.number t)) (bytes_below (words_of K.number t))).unfiled f (net t) a (table_storable K t b) (sym (file_of K t b))
 reads_back K laws t b (Err OrMemory.Memory) a = tt
-
-pub writes_back : WritesWhatWasRead
-writes_back K bs t a = file_of K t a.book ∙ a.file

@@ -1,11 +1,13 @@
 -- The table of a draft that is filled from a surveyed file.
-use Rattle.std.proofs.Common.{◌≡◌, ℕ, ◌<◌, ◌≤◌, List, Some, None, sym, ap, ◌∙◌, subst, inl, inr, arith}
+use Rattle.std.proofs.Common.{◌≡◌, ℕ, ◌<◌, ◌≤◌, List, Some, None, Result, Ok, Err, IsOk, refl, sym, ap, ◌∙◌, subst, inl, inr, arith}
 use Rattle.std.proofs.lemmas.Bool.{lt-ltb, le-ltb, cond-true, cond-false, cases_lt, both_ways}
 use Rattle.calculus.specs.Spots.{Spot}
 use Rattle.calculus.specs.Books.{RuleBook}
 use Rattle.nets.specs.declared.table.Table.{Table}
 use Rattle.nets.specs.Meaning.{net, OfBook}
-use Rattle.nets.specs.Drafts.{Plan, planned, Faulty, Realised}
+use Rattle.nets.specs.Drafts.{Plan, planned, Faulty, Realised, Sealing}
+use Rattle.nets.specs.Views.{at}
+use Rattle.nets.specs.declared.spot.Spot.{Spot as Seen}
 use Rattle.nets.proofs.Standing.{good}
 use Rattle.netfile.specs.Words.{cell_word, word}
 use Rattle.netfile.specs.Faults.{Names, CellDue, LinkDue}
@@ -36,7 +38,7 @@ module _ (K : RuleBook) {B : Type 0} (l : LayoutView B) (right : Right K l.bytes
   link_is x y w due names = same_name bs e c (p.link x) y h.few h.small (named x w due) names
 
   -- no link of the plan is at fault
-  pub no_fault : (x : Spot) → Faulty p x → ⊥
+  no_fault : (x : Spot) → Faulty p x → ⊥
   no_fault x (there, why) =
       let (w, due) = planned_due K l laid p all x there in
       let (y, names, ne, (v, back, named_back)) = right.links x w due in
@@ -46,6 +48,10 @@ module _ (K : RuleBook) {B : Type 0} (l : LayoutView B) (right : Right K l.bytes
         | inr (inl absent) ↦ both_ways (planned p y) (ap (planned p) (sym is) ∙ absent) (due_planned K l laid p all y v back)
         | inr (inr other) ↦ other (ap p.link is ∙ link_is y x v back named_back)
       ]
+
+  pub sealed : (r : Result Table Seen) → Sealing p r → IsOk r
+  sealed (Ok t) sealing = refl
+  sealed (Err x) sealing = absurd (no_fault (at x) sealing.0)
 
   module _ (bytes : Below 256 bs) (t : Table) (done : Realised p t) where
     kind_there : (r : ℕ) → r < c → (net t).kind r ≡ Some (p.kind r)

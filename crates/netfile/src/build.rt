@@ -16,9 +16,7 @@ impl<B: Book> Layout<'_, B> {
         ensures { Celled (B.meaning self.now.book) self.now self.now.head.cells (plan draft.new) }
     {
         for start in self.starts {
-            let Ok(cell) = self.file.cell_at(*start as u32) else {
-                unreachable!()
-            };
+            let cell = self.file.cell_at(*start as u32).unwrap();
             draft.add_cell(cell.kind, cell.arity).unwrap();
         }
     }
@@ -29,9 +27,7 @@ impl<B: Book> Layout<'_, B> {
         ensures { Naming (B.meaning self.now.book) self.now (λ x. x ≡ at spot) (plan draft.old) (plan draft.new) }
     {
         if let Some(word) = self.word_of(spot) {
-            let Ok(target) = self.file.link_at(word) else {
-                unreachable!()
-            };
+            let target = self.file.link_at(word).unwrap();
             draft.name_link(spot, target).unwrap();
         }
     }

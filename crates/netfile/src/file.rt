@@ -71,7 +71,7 @@ impl<B: Book> File<'_, B> {
         let mut at = 2 + self.head.ends as u32;
         self.check_links(2, at)?;
         let mut starts = [0; 1024];
-        for start in starts[..self.head.cells as usize].iter_mut() {
+        for start in &mut starts[..self.head.cells as usize] {
             *start = at as u16;
             at = self.check_cell(at)?;
         }

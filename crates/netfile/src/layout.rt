@@ -18,7 +18,6 @@ pub(crate) struct Layout<'a, B: Book> {
 }
 
 impl<'a, B: Book> Model for Layout<'a, B> {
-    ghost use Rattle.std.specs.Prelude.{◌≡◌, length};
     ghost use Rattle.netfile.specs.Layout.{LayoutView, LaidOut};
 
     ghost Value = { LayoutView B };

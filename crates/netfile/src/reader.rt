@@ -22,8 +22,5 @@ pub fn read<B: Book>(heap: Global, book: &B, bytes: &[u8]) -> Result<Table, Read
     let layout = survey.layout(book, bytes);
     layout.add_cells(&mut draft);
     layout.name_links(&mut draft);
-    let Ok(table) = draft.seal() else {
-        unreachable!()
-    };
-    Ok(table)
+    Ok(draft.seal().unwrap())
 }

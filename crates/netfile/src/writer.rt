@@ -1,5 +1,5 @@
 // Writing a net file.
-ghost use Rattle.std.specs.Prelude.{◌≡◌, ◌+◌, ◌*◌, ◌<◌, ◌≤◌, [], ◌∷◌, length};
+ghost use Rattle.std.specs.Prelude.{◌+◌, ◌*◌, ◌<◌, ◌≤◌, [], ◌∷◌, length};
 ghost use Rattle.nets.specs.Meaning.{net};
 ghost use Rattle.netfile.specs.Writing.{room, words_of, Written, Tells, Put, Puts, end_words, port_words, place_words, all_cell_words};
 
@@ -54,8 +54,7 @@ impl Writer<'_> {
     {
         let start = self.next;
         self.next = start + 4;
-        let out = &mut *self.out;
-        out[start..start + 4].copy_from_slice(&word.to_be_bytes());
+        self.out[start..start + 4].copy_from_slice(&word.to_be_bytes());
     }
 
     // Writes the link words of the ends.
@@ -63,8 +62,8 @@ impl Writer<'_> {
         requires { self.old.next + 4 * (net numbering.now.table.now).ends ≤ length self.old.out.now }
         ensures { Puts self.old (end_words numbering.now.table.now) self.new }
     {
-        for e in 0..numbering.table.ends() {
-            self.put(numbering.link_word(Spot::End(e as u16)));
+        for e in 0..u16::from(numbering.table.ends()) {
+            self.put(numbering.link_word(Spot::End(e)));
         }
     }
 
@@ -85,14 +84,13 @@ impl Writer<'_> {
         requires fits { self.old.next + 16 ≤ length self.old.out.now }
         ensures { Puts self.old (place_words numbering.now.table.now place) self.new }
     {
-        let Some(kind) = numbering.table.kind(place) else {
+        let (Some(kind), Some(arity)) = (numbering.table.kind(place), numbering.table.arity(place))
+        else {
             return;
         };
         // No book has a kind past 63; of one, the high bits fall off.
         self.put(0x8000_0000u32.wrapping_add(kind as u32 * 0x100_0000));
-        if let Some(arity) = numbering.table.arity(place) {
-            self.put_ports(numbering, place, arity + 1);
-        }
+        self.put_ports(numbering, place, arity + 1);
     }
 
     // Writes the link words of the first ports of a cell.

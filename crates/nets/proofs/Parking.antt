@@ -1,10 +1,10 @@
 -- Ports moved one by one from row to row. Assumes nothing.
-use Rattle.std.proofs.Common.{◌≡◌, ℕ, suc, ◌+◌, ◌-◌, ◌*◌, ◌<◌, ◌≤◌, Bool, true, false, cond, ltb, ◌≢◌, ◌⊎◌, List, get_or, set, sym, refl, ap, ◌∙◌, subst, ap₂, inl, inr, arith, length-set}
+use Rattle.std.proofs.Common.{◌≡◌, ℕ, suc, ◌+◌, ◌-◌, ◌*◌, ◌<◌, ◌≤◌, Bool, true, false, cond, ltb, ◌≢◌, ◌⊎◌, List, Some, None, Option, get_or, set, sym, refl, ap, ◌∙◌, subst, ap₂, inl, inr, arith, length-set}
 use mathlib.Core.Path.{fun_ext}
 use Rattle.std.proofs.lemmas.Bool.{cases_eq, cases_lt}
 use Rattle.nets.specs.declared.link.Link.{Link}
 use Rattle.nets.specs.Layout.{code, slot_of, goal, nil}
-use Rattle.nets.specs.Rewiring.{HasSlot, Shows, trade, part, under, Parked}
+use Rattle.nets.specs.Rewiring.{HasSlot, Shows, trade, part, under, Parked, Cleared}
 use Rattle.nets.proofs.Slots.{Whole, code_inj, port_slot, goal_same, goal_other}
 use Rattle.calculus.specs.Spots.{Spot, end, port}
 use Rattle.calculus.proofs.Wires.{same}
@@ -195,3 +195,11 @@ parked_down xs ys p t n N X L l W hp ht pt hn eX eL f us P =
     (subst (λ (i : ℕ). Parked ys p t i us) (sym e)
     (more ys us p t (n - 1) X L W hp ht pt (omega arith) (eX ∙ ap (λ (i : ℕ). get_or ys (p * 4 + i) nil) e) (eL ∙ ap (λ (i : ℕ). t * 4 + i) e)
     (subst (λ (i : ℕ). Parked (set (set ys (t * 4 + i) X) (slot_of X) L) p t (n - 1) us) e P)))
+
+-- a row whose ports moved to the spare one given
+pub cleared_by : (xs : List Link) (p : ℕ) (o : Option ℕ) (t n : ℕ) (ys : List Link) → t < 1030 → o ≡ Some t → Parked xs p t n ys → Cleared xs p o n ys t
+cleared_by xs p o t n ys h e P = record {
+  small = h;
+  moved = λ u f. let z : t ≡ u = cc in (z, subst (λ (u : ℕ). Parked xs p u n ys) z P);
+  stayed = λ f. let z : ◌≡◌ {A = ℕ} 0 1 = cc in absurd (omega arith);
+}

@@ -1,4 +1,5 @@
 -- The places that the new cells take. Assumes nothing.
+use mir.Val.{bool_byte}
 use Rattle.std.proofs.Common.{◌≡◌, ℕ, ◌+◌, ◌-◌, ◌<◌, ◌≤◌, min, max, Bool, true, false, cond, ltb, ◌≢◌, ◌⊎◌, List, length, sym, ap, ◌∙◌, subst, inl, inr, arith}
 use Rattle.std.proofs.lemmas.Bool.{cases_eq, cases_lt}
 use Rattle.nets.specs.Layout.{bit}
@@ -8,9 +9,15 @@ use Rattle.nets.specs.Seating.{Taken, Seated}
 use Rattle.nets.proofs.Counting.{not_flipped, is_flipped, not_taken, is_taken}
 use Rattle.nets.proofs.Renaming.{swaps, swaps_else, swaps_old}
 
--- whether p is the lower or the higher of the two places
+-- the number of the new cell that takes place p: 0 if that is the lower of the two, else 1
 abbrev pub turn : ℕ → ℕ → ℕ
-turn p q = cond (ltb p q) 0 1
+turn p q = cond (ltb q p) 1 0
+
+pub turn_is : (p q : ℕ) → bool_byte (ltb q p) ≡ turn p q
+turn_is p q = elim (cases_lt q p) [
+  | inl h ↦ (let b : ltb q p ≡ true = grind (arith) in ap bool_byte b ∙ sym (ap (λ (t : Bool). cond t 1 0) b))
+  | inr h ↦ (let b : ltb q p ≡ false = grind (arith) in ap bool_byte b ∙ sym (ap (λ (t : Bool). cond t 1 0) b))
+]
 
 pub turn_small : (p q : ℕ) → turn p q ≤ 1
 turn_small p q = grind (arith)
@@ -274,10 +281,10 @@ module _ (p q n : ℕ) (ms ps ns : List ℕ) (Q : Seated p q n ms ps ns) (few : 
 
   -- where the pair's rows stand while the new cells take their places
   turn_low : p < q → turn p q ≡ 0
-  turn_low h = let b : ltb p q ≡ true = grind (arith) in ap (λ (t : Bool). cond t 0 1) b
+  turn_low h = let b : ltb q p ≡ false = grind (arith) in ap (λ (t : Bool). cond t 1 0) b
 
   turn_high : q < p → turn p q ≡ 1
-  turn_high h = let b : ltb p q ≡ false = grind (arith) in ap (λ (t : Bool). cond t 0 1) b
+  turn_high h = let b : ltb q p ≡ true = grind (arith) in ap (λ (t : Bool). cond t 1 0) b
 
   pub turned : (turn p q ≤ 1) × (turn p q < n → seat ps (turn p q) ≡ p) × (1 - turn p q < n → seat ps (1 - turn p q) ≡ q)
   turned = elim (cases_lt p q) [

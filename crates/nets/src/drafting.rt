@@ -1,6 +1,5 @@
 // How a draft is made, filled and sealed.
-ghost use Rattle.std.specs.Prelude.{◌≡◌, ℕ, ◌+◌, ◌*◌, ◌/◌, ◌%◌, ◌^◌, ◌<◌, ◌≤◌, true, false, ltb, length, IfOk, if◌then◌else◌, ◌==◌};
-ghost use Rattle.nets.specs.Layout.{slots, decode, goal};
+ghost use Rattle.std.specs.Prelude.{◌≡◌, ℕ, ◌+◌, ◌*◌, ◌/◌, ◌%◌, ◌^◌, ◌<◌, ◌≤◌, true, ltb, IfOk, if◌then◌else◌};
 ghost use Rattle.nets.specs.Views.{at};
 ghost use Rattle.nets.specs.Drafts.{plan, planned, nameable, Begun, CellAdded, LinkNamed, cell_fault, link_fault, Attempt, Sealing};
 ghost use Rattle.nets.specs.Inner.{Checked, CheckedCell, CheckedSpot, Front};
@@ -133,12 +132,10 @@ impl Draft {
         ensures { CheckedSpot (plan self.now) (at spot) result }
     {
         let here = spot.link().slot();
-        let there = self.links.targets[here].slot();
+        let mate = self.links.targets[here];
+        let there = mate.slot();
         // by slots, which are at hand: as spots the same takes nearly twice as long
-        if there == here
-            || !self.has(self.links.targets[here].spot())
-            || self.links.targets[there].slot() != here
-        {
+        if there == here || !self.has(mate.spot()) || self.links.targets[there].slot() != here {
             return Err(spot);
         }
         Ok(())

@@ -40,7 +40,7 @@ pub enum DraftFault {
 }
 
 // A limit of the table that is against a rewrite, whatever the pair.
-#[derive(Clone, Copy, PartialEq, Eq)]
+#[derive(Clone, Copy, PartialEq, Eq, Debug)]
 pub(crate) enum Limit {
     // There are over 1,073,741,821 loops.
     Loops,

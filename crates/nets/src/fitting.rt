@@ -1,5 +1,5 @@
 // Whether the table of a rule can be used on two cells.
-ghost use Rattle.std.specs.Prelude.{◌≡◌, ◌+◌, ◌<◌, ◌≤◌, length, nat_le};
+ghost use Rattle.std.specs.Prelude.{◌≡◌, ◌<◌, ◌≤◌, length, nat_le};
 ghost use Rattle.std.specs.List.{list_all};
 ghost use Rattle.books.specs.Tables.{port_of, wires_of};
 ghost use Rattle.nets.specs.Fitting.{Paired, Fitting, Told};
@@ -16,8 +16,8 @@ pub(crate) fn fits(rule: &RuleTable, left: u8, right: u8) -> bool
         return false;
     }
     let trial = Trial { rule, left, right };
-    let mut mates = [None; 24];
-    trial.note_all(&mut mates) && trial.is_full(&mates)
+    let mut notes = Notes { mates: [None; 24] };
+    trial.note_all(&mut notes) && trial.is_full(&notes)
 }
 
 // Whether the cells have arity at most 2.
@@ -40,15 +40,15 @@ struct Trial<'a> {
 
 impl Trial<'_> {
     // Notes the mates of all ports that the rule joins; no where it joins a port that it is not to pair, or one with itself or with two.
-    fn note_all(&self, mates: &mut [Option<usize>; 24]) -> bool
-        requires { Marked self.now.left self.now.right self.now.rule.now (wires_of self.now.rule.now) 0 mates.old }
-        ensures { AllNoted self.now.left self.now.right self.now.rule.now mates.new result }
+    fn note_all(&self, notes: &mut Notes) -> bool
+        requires { Marked self.now.left self.now.right self.now.rule.now (wires_of self.now.rule.now) 0 notes.old.mates }
+        ensures { AllNoted self.now.left self.now.right self.now.rule.now notes.new.mates result }
     {
         for Wire(from, to) in self.rule.wires {
             if !self.is_paired(*from) || !self.is_paired(*to) {
                 return false;
             }
-            if !note(mates, index(*from), index(*to)) {
+            if !notes.note(index(*from), index(*to)) {
                 return false;
             }
         }
@@ -60,25 +60,25 @@ impl Trial<'_> {
         ensures { Told (Paired self.now.left self.now.right self.now.rule.now (port_of port)) result }
     {
         match port {
-            RulePort::L(port) => 1 <= port && port <= self.left,
-            RulePort::R(port) => 1 <= port && port <= self.right,
-            RulePort::N(i, port) => match self.rule.cells.get(i as usize) {
-                Some(cell) => port <= cell.arity,
-                None => false,
-            },
+            RulePort::L(port) => (1..=self.left).contains(&port),
+            RulePort::R(port) => (1..=self.right).contains(&port),
+            RulePort::N(i, port) => {
+                let cell = self.rule.cells.get(usize::from(i));
+                cell.is_some_and(|cell| port <= cell.arity)
+            }
         }
     }
 
     // Whether every port that the rule is to pair is noted.
-    fn is_full(&self, mates: &[Option<usize>; 24]) -> bool
-        ensures { Told (Full self.now.left self.now.right self.now.rule.now mates.now) result }
+    fn is_full(&self, notes: &Notes) -> bool
+        ensures { Told (Full self.now.left self.now.right self.now.rule.now notes.now.mates) result }
     {
         for (i, cell) in self.rule.cells.iter().enumerate() {
-            if !is_row_full(mates, i, 0, cell.arity) {
+            if !notes.is_row_full(i, 0, cell.arity) {
                 return false;
             }
         }
-        is_row_full(mates, 4, 1, self.left) && is_row_full(mates, 5, 1, self.right)
+        notes.is_row_full(4, 1, self.left) && notes.is_row_full(5, 1, self.right)
     }
 }
 
@@ -93,27 +93,39 @@ fn index(port: RulePort) -> usize
     }
 }
 
-// Notes that two ports are paired; no where they are one, or one is paired with another.
-fn note(mates: &mut [Option<usize>; 24], a: usize, b: usize) -> bool
-    requires first { a < 24 }
-    requires second { b < 24 }
-    ensures { Noted mates.old a b mates.new result }
-{
-    if a == b || mates[a].is_some_and(|mate| mate != b) || mates[b].is_some_and(|mate| mate != a) {
-        return false;
-    }
-    mates[a] = Some(b);
-    mates[b] = Some(a);
-    true
+// The mate of each port, where one is noted, four notes a row: rows 0 to 3 for the new cells, 4 for L, 5 for R.
+#[derive(Drop)]
+struct Notes {
+    mates: [Option<usize>; 24],
+    ghost wide: { length mates ≡ 24 },
 }
 
-// Whether the ports from the one number to the other, of one row, are noted.
-fn is_row_full(mates: &[Option<usize>; 24], row: usize, from: u8, to: u8) -> bool
-    requires rows { row < 6 }
-    requires ports { (from ≤ 1) × (to ≤ 2) }
-    ensures { Told (FullRow row from to mates.now) result }
-{
-    let first = row * 4 + from as usize;
-    let end = row * 4 + to as usize + 1;
-    !mates[first..end].contains(&None)
+impl Notes {
+    // Notes that two ports are paired; no where they are one, or one is paired with another.
+    fn note(&mut self, a: usize, b: usize) -> bool
+        requires first { a < 24 }
+        requires second { b < 24 }
+        ensures { Noted self.old.mates a b self.new.mates result }
+    {
+        if a == b
+            || self.mates[a].is_some_and(|mate| mate != b)
+            || self.mates[b].is_some_and(|mate| mate != a)
+        {
+            return false;
+        }
+        self.mates[a] = Some(b);
+        self.mates[b] = Some(a);
+        true
+    }
+
+    // Whether the ports from the one number to the other, of one row, are noted.
+    fn is_row_full(&self, row: usize, from: u8, to: u8) -> bool
+        requires rows { row < 6 }
+        requires ports { (from ≤ 1) × (to ≤ 2) }
+        ensures { Told (FullRow row from to self.now.mates) result }
+    {
+        let first = row * 4 + from as usize;
+        let end = row * 4 + to as usize + 1;
+        !self.mates[first..end].contains(&None)
+    }
 }

@@ -4,7 +4,7 @@ ghost use Rattle.books.specs.Tables.{port_of, wires_of};
 ghost use Rattle.nets.specs.Layout.{slot_of};
 ghost use Rattle.nets.specs.Rewiring.{Known, seat_of, Room, Laid};
 
-use crate::link::Link;
+use crate::link::{LEFT_GATE, Link, RIGHT_GATE};
 use crate::links::Links;
 use books::table::{RulePort, RuleTable, Wire};
 
@@ -24,8 +24,14 @@ fn moved(port: RulePort, places: &[u16]) -> Link
     ensures { slot_of result ≡ seat_of places.now (port_of port) }
 {
     match port {
-        RulePort::L(port) => Link { row: 1028, port },
-        RulePort::R(port) => Link { row: 1029, port },
+        RulePort::L(port) => Link {
+            row: LEFT_GATE,
+            port,
+        },
+        RulePort::R(port) => Link {
+            row: RIGHT_GATE,
+            port,
+        },
         RulePort::N(i, port) => Link {
             row: places[i as usize],
             port,

@@ -3,11 +3,12 @@ ghost use Rattle.std.specs.Prelude.{◌≡◌, ℕ, ◌<◌, length, slice_set};
 ghost use Rattle.nets.specs.Layout.{slots, slot_of, code, decode, goal};
 ghost use Rattle.nets.specs.Views.{at};
 
-use crate::link::Link;
+use crate::link::{Link, SLOTS};
 use crate::spot::Spot;
 use std::alloc::{AllocError, Global};
 
 // What each slot is linked with: a slot of the table.
+// That a link lies in the table is said of the list and of each call: as a fact of `Link` it would narrow a public type, and what a table's content ranges over.
 #[derive(Drop)]
 pub(crate) struct Links {
     pub(crate) targets: Vec<Link>,
@@ -19,7 +20,7 @@ impl Links {
     // Links that all name slot 0.
     pub(crate) fn new(heap: Global) -> Result<Links, AllocError> {
         Ok(Links {
-            targets: vec![in heap; Link { row: 0, port: 0 }; 4376]?,
+            targets: vec![in heap; Link { row: 0, port: 0 }; SLOTS]?,
         })
     }
 

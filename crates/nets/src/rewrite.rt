@@ -1,5 +1,4 @@
 // One pair of a table rewritten in place.
-ghost use Rattle.std.specs.Prelude.{◌≡◌, if◌then◌else◌, nat_lt};
 ghost use Rattle.nets.specs.Meaning.{net};
 ghost use Rattle.nets.specs.Fitting.{Told};
 ghost use Rattle.nets.specs.Rewrites.{Face, Suits, Due, Rewrites};
@@ -8,6 +7,7 @@ ghost use Rattle.nets.specs.Seating.{Checked, Limiting, Replaceable, Replaced};
 use crate::fault::{Limit, RewriteFault};
 use crate::fitting::fits;
 use crate::lay::lay;
+use crate::link::{FIRST_END, FIRST_SPARE, LEFT_GATE, RIGHT_GATE, SECOND_SPARE};
 use crate::occupancy::is_occupied;
 use crate::seats::{fill, take_places};
 use crate::table::Table;
@@ -57,7 +57,7 @@ impl Table {
     pub(crate) fn are_facing(&self, left: u16, right: u16) -> bool
         ensures { Told (Face (net self.now) left right) result }
     {
-        if !is_occupied(&self.occupied, left) || right >= 1030 {
+        if !is_occupied(&self.occupied, left) || right >= FIRST_END {
             return false;
         }
         self.links.targets[left as usize * 4].slot() == right as usize * 4
@@ -81,29 +81,21 @@ impl Table {
         requires { Replaceable self.old left right rule.now }
         ensures { Replaced self.old left right rule.now result.items self.new }
     {
-        let a = self.places[left as usize].arity;
-        let b = self.places[right as usize].arity;
+        let left_ports = self.places[left as usize].arity;
+        let right_ports = self.places[right as usize].arity;
         let cells = rule.cells.len() as u16;
-        let turn = order(left, right);
+        // the number of the new cell that takes L's place, and of that place's spare row
+        let turn = u16::from(left > right);
         let places = take_places(&mut self.occupied, left, right, rule.cells.len());
-        let top = self
-            .links
-            .clear(left, (turn < cells).then_some(1024 + turn), a);
-        let low = self
-            .links
-            .clear(right, (1 - turn < cells).then_some(1025 - turn), b);
+        let left_spare = (turn < cells).then_some(FIRST_SPARE + turn);
+        let left_row = self.links.clear(left, left_spare, left_ports);
+        let right_spare = (1 - turn < cells).then_some(SECOND_SPARE - turn);
+        let right_row = self.links.clear(right, right_spare, right_ports);
         lay(&mut self.links, rule, &places);
-        let first = self.links.splice_rows(top, 1028, a);
-        let second = self.links.splice_rows(low, 1029, b);
+        let first = self.links.splice_rows(left_row, LEFT_GATE, left_ports);
+        let second = self.links.splice_rows(right_row, RIGHT_GATE, right_ports);
         fill(&mut self.places, rule.cells, &places);
         self.loops = self.loops + first + second;
         places
     }
-}
-
-// 0 if the first place is the lower one, else 1: the number of the new cell that takes it, and of its spare row.
-fn order(left: u16, right: u16) -> u16
-    ensures { result ≡ (if nat_lt left right then 0 else 1) }
-{
-    if left < right { 0 } else { 1 }
 }

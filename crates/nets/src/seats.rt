@@ -49,13 +49,9 @@ fn take_vacant(map: &mut [u8; 128]) -> u16
     requires { bits_below map.old 1024 < 1024 }
     ensures { Taken true map.old result map.new }
 {
-    match highest_vacant(map) {
-        Some(place) => {
-            flip(map, place);
-            place
-        }
-        None => unreachable(),
-    }
+    let place = highest_vacant(map).unwrap();
+    flip(map, place);
+    place
 }
 
 // The highest vacant place, if there is one.

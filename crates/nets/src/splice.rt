@@ -1,7 +1,7 @@
 // Splices in the links of a table, and rows moved out of the way.
 ghost use Rattle.std.specs.Prelude.{◌<◌, ◌≢◌, IfSome};
 ghost use Rattle.nets.specs.Layout.{slot_of, slots};
-ghost use Rattle.nets.specs.Rewiring.{Spliced, Strung, Parked, Cleared};
+ghost use Rattle.nets.specs.Rewiring.{Spliced, Strung, Cleared};
 
 use crate::link::Link;
 use crate::links::Links;
@@ -23,46 +23,35 @@ impl Links {
         0
     }
 
-    // Ports n down to 1 of two rows spliced; answers the loops that this closes.
-    pub(crate) fn splice_rows(&mut self, p: u16, g: u16, n: u8) -> u32
-        requires first { p < 1030 }
-        requires second { g < 1030 }
-        requires ports { n < 3 }
-        ensures { Strung self.old.targets.items p g n self.new.targets.items result }
+    // So many ports of two rows spliced, the last first; answers the loops that this closes.
+    pub(crate) fn splice_rows(&mut self, row: u16, gate: u16, ports: u8) -> u32
+        requires first { row < 1030 }
+        requires second { gate < 1030 }
+        requires few { ports < 3 }
+        ensures { Strung self.old.targets.items row gate ports self.new.targets.items result }
     {
         let mut loops = 0;
         // each turn changes the links that the next one reads
-        for port in (1..=n).rev() {
-            loops += self.splice(Link { row: p, port }, Link { row: g, port });
+        for port in (1..=ports).rev() {
+            loops += self.splice(Link { row, port }, Link { row: gate, port });
         }
         loops
     }
 
-    // Ports n down to 1 of row p move to row t.
-    fn park(&mut self, p: u16, t: u16, n: u8)
-        requires first { p < 1030 }
-        requires second { t < 1030 }
-        requires apart { p ≢ t }
-        requires ports { n < 3 }
-        ensures { Parked self.old.targets.items p t n self.new.targets.items }
+    // Makes the row free where a spare one is given, its ports moved to that, the last first; answers where they stand.
+    pub(crate) fn clear(&mut self, row: u16, spare: Option<u16>, ports: u8) -> u16
+        requires first { row < 1030 }
+        requires second { IfSome spare (λ t. (t < 1030) × (row ≢ t)) }
+        requires few { ports < 3 }
+        ensures { Cleared self.old.targets.items row spare ports self.new.targets.items result }
     {
-        for port in (1..=n).rev() {
-            let mate = self.targets[Link { row: p, port }.slot()];
-            self.join(Link { row: t, port }, mate);
-        }
-    }
-
-    // Makes row p free where a spare row is given, its ports moved to that; answers where they stand.
-    pub(crate) fn clear(&mut self, p: u16, spare: Option<u16>, n: u8) -> u16
-        requires first { p < 1030 }
-        requires second { IfSome spare (λ t. (t < 1030) × (p ≢ t)) }
-        requires ports { n < 3 }
-        ensures { Cleared self.old.targets.items p spare n self.new.targets.items result }
-    {
-        let Some(t) = spare else {
-            return p;
+        let Some(spare) = spare else {
+            return row;
         };
-        self.park(p, t, n);
-        t
+        for port in (1..=ports).rev() {
+            let mate = self.targets[Link { row, port }.slot()];
+            self.join(Link { row: spare, port }, mate);
+        }
+        spare
     }
 }

@@ -3,7 +3,7 @@ ghost use Rattle.std.specs.Prelude.{◌≡◌, ◌<◌};
 ghost use Rattle.nets.specs.Layout.{slots, slot_of, code};
 ghost use Rattle.nets.specs.Views.{at};
 
-use crate::link::Link;
+use crate::link::{FIRST_END, Link};
 
 /// Where a wire can end: an end of the net, or a port of the cell in a place. Port 0 is the principal port.
 #[derive(Clone, Copy, PartialEq, Eq, Debug)]
@@ -20,7 +20,7 @@ impl Spot {
     {
         match self {
             Spot::End(e) => Link {
-                row: 1030 + e,
+                row: FIRST_END + e,
                 port: 0,
             },
             Spot::Port(row, port) => Link { row, port },

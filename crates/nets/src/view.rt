@@ -1,5 +1,5 @@
 // What a table tells of its net.
-ghost use Rattle.std.specs.Prelude.{◌≡◌, ℕ, ◌<◌, sum_by, count_ones};
+ghost use Rattle.std.specs.Prelude.{◌≡◌, sum_by, count_ones};
 ghost use Rattle.nets.specs.Meaning.{net, content, arity_at, cells_below};
 ghost use Rattle.nets.specs.Views.{at, Mated};
 ghost use Rattle.nets.specs.Inner.{there};

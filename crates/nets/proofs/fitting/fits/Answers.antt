@@ -25,7 +25,7 @@ returns-then-note_all c =
     let r = c.args.rule.now in
     let M = c.if-note_all.ensures in
     let small = small_cells c.args.rule.now (sym c.if-not-are_small.false ∙ c.are_small.ensures) in
-    told_same (Full c.args.left c.args.right c.args.rule.now c.note_all.new.mates) (Fitting c.args.left c.args.right c.args.rule.now) c.is_full.result
-    (noted_fits a b r c.if-rule-gt4.false small c.requires.ports.0 c.requires.ports.1 c.note_all.new.mates M.0 M.1 M.2)
-    (noted_full a b r c.if-rule-gt4.false small c.requires.ports.0 c.requires.ports.1 c.note_all.new.mates M.0 M.1 M.2)
+    told_same (Full c.args.left c.args.right c.args.rule.now c.note_all.new.notes.mates) (Fitting c.args.left c.args.right c.args.rule.now) c.is_full.result
+    (noted_fits a b r c.if-rule-gt4.false small c.requires.ports.0 c.requires.ports.1 c.note_all.new.notes.mates M.0 M.1 M.2)
+    (noted_full a b r c.if-rule-gt4.false small c.requires.ports.0 c.requires.ports.1 c.note_all.new.notes.mates M.0 M.1 M.2)
     c.is_full.ensures

@@ -20,25 +20,25 @@ pub returns-then-not-is_row_full : goal.returns-then-not-is_row_full
 returns-then-not-is_row_full c = λ f.
     let s = c.args.self.now in
     c.if-not-is_row_full.ensures
-    (subst (λ (x : ℕ). FullRow c.loop-i.i 0 x c.args.mates.now) (arity_read s.rule.now c.loop-i.i)
-    (full_row s.left s.right s.rule.now s.few s.small s.ports.0 s.ports.1 c.args.mates.now f c.loop-i.i c.loop-i-test.true))
+    (subst (λ (x : ℕ). FullRow c.loop-i.i 0 x c.args.notes.now.mates) (arity_read s.rule.now c.loop-i.i)
+    (full_row s.left s.right s.rule.now s.few s.small s.ports.0 s.ports.1 c.args.notes.now.mates f c.loop-i.i c.loop-i-test.true))
 
 pub loop-i-preserved : goal.loop-i-preserved
 loop-i-preserved c =
     below_more _ _ c.loop-i.invariant
-    (subst (λ (x : ℕ). FullRow c.loop-i.i 0 x c.args.mates.now) (sym (arity_read c.args.self.now.rule.now c.loop-i.i)) c.if-not-is_row_full.ensures)
+    (subst (λ (x : ℕ). FullRow c.loop-i.i 0 x c.args.notes.now.mates) (sym (arity_read c.args.self.now.rule.now c.loop-i.i)) c.if-not-is_row_full.ensures)
 
 pub returns-then-is_row_full : goal.returns-then-is_row_full
 returns-then-is_row_full c =
     let s = c.args.self.now in
-    told_same (FullRow 5 1 s.right c.args.mates.now) (Full s.left s.right s.rule.now c.args.mates.now) c.is_row_full-then-is_row_full.result
-    (λ g. full_rows s.left s.right s.rule.now s.few s.small s.ports.0 s.ports.1 c.args.mates.now (λ k h. c.loop-i.invariant k (omega arith)) c.if-is_row_full.ensures g)
+    told_same (FullRow 5 1 s.right c.args.notes.now.mates) (Full s.left s.right s.rule.now c.args.notes.now.mates) c.is_row_full-then-is_row_full.result
+    (λ g. full_rows s.left s.right s.rule.now s.few s.small s.ports.0 s.ports.1 c.args.notes.now.mates (λ k h. c.loop-i.invariant k (omega arith)) c.if-is_row_full.ensures g)
     (λ f j i l. f (R j) (i, l))
     c.is_row_full-then-is_row_full.ensures
 
 pub returns-else-is_row_full : goal.returns-else-is_row_full
 returns-else-is_row_full c =
     let s = c.args.self.now in
-    told_not (FullRow 4 1 s.left c.args.mates.now) (Full s.left s.right s.rule.now c.args.mates.now) c.is_row_full-2.result c.if-is_row_full.false
+    told_not (FullRow 4 1 s.left c.args.notes.now.mates) (Full s.left s.right s.rule.now c.args.notes.now.mates) c.is_row_full-2.result c.if-is_row_full.false
     (λ f j i l. f (L j) (i, l))
     c.is_row_full-2.ensures

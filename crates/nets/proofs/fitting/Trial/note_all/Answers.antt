@@ -32,10 +32,10 @@ returns-then-not-note c = λ F.
     let at = wire_at r c.loop-from.from-index _ c.loop-from-test.true in
     let pu = c.if-not-is_paired.ensures in
     let pv = c.if-not-is_paired-2.ensures in
-    let a = agrees s.left s.right r s.few s.small s.ports.0 s.ports.1 (wires_of r) c.loop-from.from-index c.loop-from.mates c.loop-from.invariant _ _ at pu pv F refl in
-    let b = agrees_back s.left s.right r s.few s.small s.ports.0 s.ports.1 (wires_of r) c.loop-from.from-index c.loop-from.mates c.loop-from.invariant _ _ at pu pv F refl in
-    let o = other_note s.left s.right r s.few s.small s.ports.0 s.ports.1 (wires_of r) c.loop-from.from-index c.loop-from.mates c.loop-from.invariant _ _ at pu pv F refl in
-    refused c.loop-from.mates _ _ (sym c.index.ensures) (sym c.index-in-loop-from.ensures) c.if-not-note.ensures o a b
+    let a = agrees s.left s.right r s.few s.small s.ports.0 s.ports.1 (wires_of r) c.loop-from.from-index c.loop-from.notes.mates c.loop-from.invariant _ _ at pu pv F refl in
+    let b = agrees_back s.left s.right r s.few s.small s.ports.0 s.ports.1 (wires_of r) c.loop-from.from-index c.loop-from.notes.mates c.loop-from.invariant _ _ at pu pv F refl in
+    let o = other_note s.left s.right r s.few s.small s.ports.0 s.ports.1 (wires_of r) c.loop-from.from-index c.loop-from.notes.mates c.loop-from.invariant _ _ at pu pv F refl in
+    refused c.loop-from.notes.mates _ _ (sym c.index.ensures) (sym c.index-in-loop-from.ensures) c.if-not-note.ensures o a b
   where
     refused : (mates : List (Option ℕ)) {u v : ℕ} (x y : ℕ) → u ≡ x → v ≡ y → (x ≢ y → Agrees mates x y → Agrees mates y x → ⊥) → u ≢ v → Agrees mates u v → Agrees mates v u → ⊥
     refused mates {u} {v} x y e f n o a b =
@@ -48,9 +48,9 @@ loop-from-preserved c =
     let s = c.args.self.now in
     let r = c.args.self.now.rule.now in
     let at = wire_at r c.loop-from.from-index _ c.loop-from-test.true in
-    marked_more s.left s.right r s.few s.small s.ports.0 s.ports.1 (wires_of r) c.loop-from.from-index c.loop-from.mates c.loop-from.invariant _ _ at
-    c.if-not-is_paired.ensures c.if-not-is_paired-2.ensures c.note.new.mates
-    (taken c.loop-from.mates c.note.new.mates c.index.ensures c.index-in-loop-from.ensures c.if-not-note.ensures)
+    marked_more s.left s.right r s.few s.small s.ports.0 s.ports.1 (wires_of r) c.loop-from.from-index c.loop-from.notes.mates c.loop-from.invariant _ _ at
+    c.if-not-is_paired.ensures c.if-not-is_paired-2.ensures c.note.new.self.mates
+    (taken c.loop-from.notes.mates c.note.new.self.mates c.index.ensures c.index-in-loop-from.ensures c.if-not-note.ensures)
   where
     taken : (ms ns : List (Option ℕ)) {x y u v : ℕ} → x ≡ u → y ≡ v → Noted ms x y ns true → Noted ms u v ns true
     taken ms ns {x} {y} {u} {v} e f h = subst (λ (t : ℕ). Noted ms u t ns true) f (subst (λ (t : ℕ). Noted ms t y ns true) e h)

@@ -8,7 +8,7 @@ loop-port-init c = record { few = omega arith; rest = λ us k t. rw zero-add t }
 pub loop-port-preserved : goal.loop-port-preserved
 loop-port-preserved c = record {
   few = omega (arith, c.splice-loops.ensures.few);
-  rest = strung_down (vec_items c.args.self.now.targets) (vec_items c.loop-port.self.targets) (vec_items c.splice-loops.new.self.targets) c.args.p c.args.g c.loop-port.port c.args.n
+  rest = strung_down (vec_items c.args.self.now.targets) (vec_items c.loop-port.self.targets) (vec_items c.splice-loops.new.self.targets) c.args.row c.args.gate c.loop-port.port c.args.ports
       c.splice-loops.result c.loop-port.loops c.loop-port-test.true c.splice-loops.ensures c.loop-port.invariant.rest;
 }
 
@@ -16,4 +16,4 @@ pub returns : goal.returns
 returns c =
     let e : c.loop-port.port ≡ 0 = omega arith in
     rw (← add-zero c.loop-port.loops)
-    (c.loop-port.invariant.rest (vec_items c.loop-port.self.targets) 0 (rw e (strung_none (vec_items c.loop-port.self.targets) c.args.p c.args.g)))
+    (c.loop-port.invariant.rest (vec_items c.loop-port.self.targets) 0 (rw e (strung_none (vec_items c.loop-port.self.targets) c.args.row c.args.gate)))

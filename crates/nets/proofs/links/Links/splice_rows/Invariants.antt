@@ -5,7 +5,7 @@ use Rattle.nets.proofs.links.Links.splice_rows.Given as goal
 
 abbrev pub invariant-loop-port : goal.invariant-loop-port
 invariant-loop-port l = record {
-  few : l.loops + l.port ≤ l.n;
-  rest : (us : List Link) (k : ℕ) → Strung (vec_items l.self.targets) l.p l.g l.port us k →
-      Strung (vec_items l.initial.self.targets) l.p l.g l.n us (l.loops + k);
+  few : l.loops + l.port ≤ l.ports;
+  rest : (us : List Link) (k : ℕ) → Strung (vec_items l.self.targets) l.row l.gate l.port us k →
+      Strung (vec_items l.initial.self.targets) l.row l.gate l.ports us (l.loops + k);
 }

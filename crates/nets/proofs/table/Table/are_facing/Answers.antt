@@ -6,5 +6,5 @@ use Rattle.nets.proofs.table.Table.are_facing.Goals as goal
 
 pub returns : goal.returns
 returns c =
-    facing_told c.args.self.now c.args.left c.args.right c.slot.result (grind (arith)) c.if-right-ge1030.false
+    facing_told c.args.self.now c.args.left c.args.right c.slot.result (grind (arith)) c.if-right-ge-FIRST_END.false
     (c.slot.ensures ∙ ap slot_of (read c.args.self.now.links (c.args.left * 4) (c.args.left * 4) c.index.result.now refl (omega (arith, c.is_occupied.ensures.low c.if-not-is_occupied.false)) c.index.ensures))

@@ -7,7 +7,7 @@ use Rattle.nets.specs.Rewiring.{Room, Places, Laid, Filled}
 use Rattle.nets.specs.ByBook.{seat}
 use Rattle.nets.specs.Rewrites.{ports_at}
 use Rattle.nets.proofs.Counting.{cells_are}
-use Rattle.nets.proofs.Seatings.{turn_small, places}
+use Rattle.nets.proofs.Seatings.{turn_is, turn_small, places}
 use Rattle.nets.proofs.Altering.{cleared_if, if_spare}
 use Rattle.nets.proofs.Filling.{listed_kinds, listed_arities}
 use Rattle.nets.proofs.Finishing.{Did, relinked_of, downwards, p_on, q_on, p_low, q_low, room_of, few_loops, slots_other, slots_standing, slots_back, few_ports, map_long, rewriting_K, of_book_K, seats_K}
@@ -32,21 +32,21 @@ take_places-places-requires c =
       room = omega arith;
     }
 
-pub clear-top-requires : goal.clear-top-requires
-clear-top-requires c =
+pub clear-left_row-requires : goal.clear-left_row-requires
+clear-left_row-requires c =
     let s = c.args.self.now in
     let h = p_low s c.args.left c.args.right c.requires.facing in
-    let t : c.order-turn.result ≤ 1 = omega (arith, c.order-turn.ensures, turn_small c.args.left c.args.right) in
+    let t : c.from-turn.result ≤ 1 = omega (arith, c.from-turn.ensures, turn_is c.args.left c.args.right, turn_small c.args.left c.args.right) in
     let e = p_arity s c.args.left c.args.right c.requires.facing c.index.result.now c.index.ensures in
-    record { first = omega arith; second = if_spare (λ t. (t < 1030) × (c.args.left ≢ t)) _ _ c.then_some.result c.then_some.ensures (omega arith, λ z. omega arith); ports = omega (arith, s.ports c.args.left) }
+    record { first = omega arith; second = if_spare (λ t. (t < 1030) × (c.args.left ≢ t)) _ _ c.then_some-left_spare.result c.then_some-left_spare.ensures (omega arith, λ z. omega arith); few = omega (arith, s.ports c.args.left) }
 
-pub clear-low-requires : goal.clear-low-requires
-clear-low-requires c =
+pub clear-right_row-requires : goal.clear-right_row-requires
+clear-right_row-requires c =
     let s = c.args.self.now in
     let h = q_low s c.args.left c.args.right c.requires.facing in
-    let t : c.order-turn.result ≤ 1 = omega (arith, c.order-turn.ensures, turn_small c.args.left c.args.right) in
+    let t : c.from-turn.result ≤ 1 = omega (arith, c.from-turn.ensures, turn_is c.args.left c.args.right, turn_small c.args.left c.args.right) in
     let e = q_arity s c.args.left c.args.right c.requires.facing c.index-2.result.now c.index-2.ensures in
-    record { first = omega arith; second = if_spare (λ t. (t < 1030) × (c.args.right ≢ t)) _ _ c.then_some-2.result c.then_some-2.ensures (omega arith, λ z. omega arith); ports = omega (arith, s.ports c.args.right) }
+    record { first = omega arith; second = if_spare (λ t. (t < 1030) × (c.args.right ≢ t)) _ _ c.then_some-right_spare.result c.then_some-right_spare.ensures (omega arith, λ z. omega arith); few = omega (arith, s.ports c.args.right) }
 
 -- the places of the new cells
 seats : (c : After-take_places-places) → Places (seat c.take_places-places.result.items) (length c.args.rule.now.cells.now)
@@ -56,11 +56,11 @@ seats c =
     (p_low c.args.self.now c.args.left c.args.right c.requires.facing) (q_low c.args.self.now c.args.left c.args.right c.requires.facing)
     (p_on c.args.self.now c.args.left c.args.right c.requires.facing) (q_on c.args.self.now c.args.left c.args.right c.requires.facing)
 
-pub splice_rows-first-requires-clause-ports : goal.splice_rows-first-requires-clause-ports
-splice_rows-first-requires-clause-ports c = omega (arith, p_few c.args.self.now c.args.left c.args.right c.requires.facing c.index.result.now c.index.ensures)
+pub splice_rows-first-requires-clause-few : goal.splice_rows-first-requires-clause-few
+splice_rows-first-requires-clause-few c = omega (arith, p_few c.args.self.now c.args.left c.args.right c.requires.facing c.index.result.now c.index.ensures)
 
-pub splice_rows-second-requires-clause-ports : goal.splice_rows-second-requires-clause-ports
-splice_rows-second-requires-clause-ports c = omega (arith, q_few c.args.self.now c.args.left c.args.right c.requires.facing c.index-2.result.now c.index-2.ensures)
+pub splice_rows-second-requires-clause-few : goal.splice_rows-second-requires-clause-few
+splice_rows-second-requires-clause-few c = omega (arith, q_few c.args.self.now c.args.left c.args.right c.requires.facing c.index-2.result.now c.index-2.ensures)
 
 pub lay-requires : goal.lay-requires
 lay-requires c =
@@ -103,13 +103,13 @@ did c =
       ps = c.take_places-places.result.items;
       seated = c.take_places-places.ensures;
       relinked = relinked_of s p q r ps
-          (vec_items c.clear-top.new.self.targets) (vec_items c.clear-low.new.self.targets) (vec_items c.lay.new.links.targets) (vec_items c.splice_rows-first.new.self.targets) (vec_items c.splice_rows-second.new.self.targets)
-          c.order-turn.result c.index.result.now.arity c.index-2.result.now.arity c.clear-top.result c.clear-low.result c.splice_rows-first.result c.splice_rows-second.result
+          (vec_items c.clear-left_row.new.self.targets) (vec_items c.clear-right_row.new.self.targets) (vec_items c.lay.new.links.targets) (vec_items c.splice_rows-first.new.self.targets) (vec_items c.splice_rows-second.new.self.targets)
+          c.from-turn.result c.index.result.now.arity c.index-2.result.now.arity c.clear-left_row.result c.clear-right_row.result c.splice_rows-first.result c.splice_rows-second.result
           (s.loops + c.splice_rows-first.result + c.splice_rows-second.result)
-          c.order-turn.ensures (p_arity s p q F c.index.result.now c.index.ensures) (q_arity s p q F c.index-2.result.now c.index-2.ensures)
-          (cleared_if (vec_items s.links.targets) p (1024 + c.order-turn.result) c.index.result.now.arity (ltb c.order-turn.result (length r.cells.now)) (vec_items c.clear-top.new.self.targets) c.clear-top.result c.then_some.result c.then_some.ensures c.clear-top.ensures)
-          (cleared_if (vec_items c.clear-top.new.self.targets) q (1025 - c.order-turn.result) c.index-2.result.now.arity (ltb (1 - c.order-turn.result) (length r.cells.now)) (vec_items c.clear-low.new.self.targets) c.clear-low.result c.then_some-2.result c.then_some-2.ensures c.clear-low.ensures)
-          (subst (λ (ps : List ℕ). Laid (vec_items c.clear-low.new.self.targets) (wires_of r) ps (vec_items c.lay.new.links.targets)) c.deref.ensures.0 c.lay.ensures) c.splice_rows-first.ensures c.splice_rows-second.ensures refl;
+          (c.from-turn.ensures ∙ turn_is p q) (p_arity s p q F c.index.result.now c.index.ensures) (q_arity s p q F c.index-2.result.now c.index-2.ensures)
+          (cleared_if (vec_items s.links.targets) p (1024 + c.from-turn.result) c.index.result.now.arity (ltb c.from-turn.result (length r.cells.now)) (vec_items c.clear-left_row.new.self.targets) c.clear-left_row.result c.then_some-left_spare.result c.then_some-left_spare.ensures c.clear-left_row.ensures)
+          (cleared_if (vec_items c.clear-left_row.new.self.targets) q (1025 - c.from-turn.result) c.index-2.result.now.arity (ltb (1 - c.from-turn.result) (length r.cells.now)) (vec_items c.clear-right_row.new.self.targets) c.clear-right_row.result c.then_some-right_spare.result c.then_some-right_spare.ensures c.clear-right_row.ensures)
+          (subst (λ (ps : List ℕ). Laid (vec_items c.clear-right_row.new.self.targets) (wires_of r) ps (vec_items c.lay.new.links.targets)) c.deref.ensures.0 c.lay.ensures) c.splice_rows-first.ensures c.splice_rows-second.ensures refl;
       kinds = listed_kinds (vec_items s.places) r.cells.now (length r.cells.now) ps (vec_items c.fill.new.cells) (filled c);
       arities = listed_arities (vec_items s.places) r.cells.now (length r.cells.now) ps (vec_items c.fill.new.cells) (filled c);
       ends = refl;

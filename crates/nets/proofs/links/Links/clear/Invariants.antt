@@ -1,8 +1,8 @@
 use Rattle.std.proofs.Common.{List, vec_items}
 use Rattle.nets.specs.declared.link.Link.{Link}
 use Rattle.nets.specs.Rewiring.{Parked}
-use Rattle.nets.proofs.links.Links.park.Given as goal
+use Rattle.nets.proofs.links.Links.clear.Given as goal
 
 abbrev pub invariant-loop-port : goal.invariant-loop-port
 invariant-loop-port l =
-    (us : List Link) → Parked (vec_items l.self.targets) l.p l.t l.port us → Parked (vec_items l.initial.self.targets) l.p l.t l.n us
+    (us : List Link) → Parked (vec_items l.self.targets) l.row l.spare l.port us → Parked (vec_items l.initial.self.targets) l.row l.spare l.ports us
