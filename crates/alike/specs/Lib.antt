@@ -1,3 +1,4 @@
+pub mod Listings
 pub mod Pairings
 pub mod Rows
 pub mod Sides

@@ -3,6 +3,7 @@
 #![tactic(auto)]
 
 mod row;
+mod rows;
 mod side;
 
 ghost use Rattle.std.specs.Prelude.{◌≡◌, ◌*◌, ℕ, ◌<◌, ◌≤◌, true, ◌≢◌, ◌↔◌, length};
@@ -152,10 +153,7 @@ impl<'a> Pairing<'a> {
         // each try may change the pairs, as in `settle`
         for q in 0..1094 {
             let q = Row { number: q };
-            if self.theirs.find(q).is_none()
-                && self.theirs.kind(q) == wanted
-                && self.attempt(p, q)
-            {
+            if self.theirs.find(q).is_none() && self.theirs.is_of(q, wanted) && self.attempt(p, q) {
                 return true;
             }
         }

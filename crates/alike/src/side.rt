@@ -1,8 +1,8 @@
 // One side of the pairs.
-ghost use Rattle.std.specs.Prelude.{◌≡◌, ℕ, ◌<◌, ◌++◌, ◌∷◌, [], length, take, slice_index};
+ghost use Rattle.std.specs.Prelude.{◌≡◌, ℕ, ◌<◌, ◌++◌, ◌∷◌, ◌↔◌, [], true, length, take, slice_index};
 
 use crate::row::{Kind, Port, Row};
-use arrayvec::ArrayVec;
+use crate::rows::Rows;
 use nets::table::Table;
 
 // A net, and its row in each pair: rows[k] for the pair k.
@@ -10,7 +10,7 @@ use nets::table::Table;
 #[derive(Drop)]
 pub(crate) struct Side<'a> {
     pub(crate) table: &'a Table,
-    pub(crate) rows: ArrayVec<u16, 1094>,
+    pub(crate) rows: Rows,
     seats: [u16; 1094],
     ghost small: { (k : ℕ) → slice_index rows.items k < 1094 },
     ghost seated: { (k : ℕ) → k < length rows.items → slice_index seats (slice_index rows.items k) ≡ k },
@@ -28,7 +28,7 @@ impl Side<'_> {
     {
         Side {
             table,
-            rows: ArrayVec::new(),
+            rows: Rows::new(),
             seats: [0; 1094],
         }
     }
@@ -39,7 +39,7 @@ impl Side<'_> {
         ensures { result.number ≡ row_at self.now k }
     {
         Row {
-            number: self.rows[k],
+            number: self.rows.at(k),
         }
     }
 
@@ -48,7 +48,7 @@ impl Side<'_> {
         ensures { Found (size self.now) (row_at self.now) row.number result }
     {
         let k = self.seats[row.number as usize] as usize;
-        (self.rows.get(k) == Some(&row.number)).then_some(k)
+        (self.rows.get(k) == Some(row.number)).then_some(k)
     }
 
     // Puts a row behind the others.
@@ -79,6 +79,21 @@ impl Side<'_> {
         }
         let end = (row.number - 1030) as u8;
         (end < self.table.ends()).then_some(Kind::End(end))
+    }
+
+    // Whether this is what stands in a row.
+    // By cases, since the search for a piece that fits asks this of every row.
+    pub(crate) fn is_of(&self, row: Row, kind: Option<Kind>) -> bool
+        requires { IsFew kind }
+        ensures { result ≡ true ↔ ((graph_of self.now).kind row.number ≡ kind_number kind) }
+    {
+        match kind {
+            Some(Kind::Cell(kind)) => self.table.kind(row.number) == Some(kind),
+            Some(Kind::End(end)) => {
+                row.number == 1030 + u16::from(end) && end < self.table.ends()
+            }
+            None => self.kind(row).is_none(),
+        }
     }
 
     // What a port is linked with: itself, if its row does not have it.

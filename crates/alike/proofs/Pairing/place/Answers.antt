@@ -1,16 +1,15 @@
-use Rattle.std.proofs.Common.{◌*◌, ◌+◌, true, false, ◌≢◌, sym, refl, ap, ◌∙◌, subst, rules, arith}
-use Rattle.std.proofs.lemmas.Grind.{common_steps}
+use Rattle.std.proofs.Common.{◌*◌, ◌+◌, true, false, sym, refl, ap, ◌∙◌, subst, rules, arith}
+use Rattle.std.proofs.lemmas.Bool.{true≢false}
 use Rattle.pairing.specs.Graph.{Graph}
 use Rattle.pairing.proofs.Pairs.{Settled, Tried}
 use Rattle.pairing.proofs.Steps.{Sought, sought_more, placed_yes, placed_no, refutes_kind, refutes_theirs, free_still, grown_refl, found_some}
 use Rattle.alike.specs.declared.Pairing.{Pairing}
-use Rattle.alike.specs.Rows.{kind_number}
 use Rattle.alike.specs.Pairings.{pairs, SameNets}
 use Rattle.alike.specs.Sides.{graph_of}
 use Rattle.alike.proofs.Graphs.{within}
 use Rattle.alike.proofs.Pairings.{along, along_back, matched_too, same_trans}
 use Rattle.alike.proofs.Pairing.place.Goals as goal
-use Rattle.alike.proofs.Pairing.place.Goals.{else-is_none-via-then-is_none+then-eq+else-attempt, else-is_none-via-then-is_none+else-eq, else-is_none-via-else-is_none}
+use Rattle.alike.proofs.Pairing.place.Goals.{else-is_none-via-then-is_none+then-is_of+else-attempt, else-is_none-via-then-is_none+else-is_of, else-is_none-via-else-is_none}
 
 pub attempt-requires-clause-settled : goal.attempt-requires-clause-settled
 attempt-requires-clause-settled c =
@@ -40,17 +39,16 @@ loop-q-preserved c =
     let next = sought_more A B p (pairs m) q (pairs n) so in
     let S : Pairing → Type 0 = λ z. record { nets : SameNets m z; sought : Sought A B p (pairs m) (q + 1) (pairs z) } in
     elim c.else-is_none.branch [
-      | else-is_none-via-then-is_none+then-eq+else-attempt w ↦
+      | else-is_none-via-then-is_none+then-is_of+else-attempt w ↦
           let o = w.attempt.new.self in
           let t = along m n s (λ A B. Tried A B p q (pairs n) (pairs o) false) w.if-attempt.ensures.tried in
           let u = t.no refl in
           subst S (sym w.self-is) (record { nets = same_trans m n o s w.attempt.ensures.nets; sought = next (pairs o) t.settled t.grown u.0 u.1 })
-      | else-is_none-via-then-is_none+else-eq w ↦
-          let d : kind_number w.kind.result ≢ kind_number c.kind-wanted.result = grind (arith, common_steps) in
+      | else-is_none-via-then-is_none+else-is_of w ↦
           subst S (sym w.self-is) (record {
             nets = s;
             sought = next (pairs n) so.settled (grown_refl (pairs n)) refl
-                (refutes_kind A B (pairs n) p q ok live (λ e. d (w.kind.ensures.number ∙ ap (λ (G : Graph). G.kind q) s.1 ∙ sym e ∙ sym c.kind-wanted.ensures.number)));
+                (refutes_kind A B (pairs n) p q ok live (λ e. true≢false (sym (w.is_of.ensures.1 (ap (λ (G : Graph). G.kind q) s.1 ∙ sym e ∙ sym c.kind-wanted.ensures.number)) ∙ w.if-is_of.false)));
           })
       | else-is_none-via-else-is_none w ↦
           let k = found_some _ _ q c.find.result (search rules) c.find.ensures in

@@ -1,6 +1,5 @@
-use Rattle.std.proofs.Common.{arith}
 use Rattle.alike.proofs.Sides.{one_more}
 use Rattle.alike.proofs.side.Side.push.Goals as goal
 
 pub push-requires : goal.push-requires
-push-requires c = (omega arith, one_more c.args.self.now c.args.row.number c.args.row.small c.requires)
+push-requires c = one_more c.args.self.now c.args.row.number c.args.row.small c.requires
