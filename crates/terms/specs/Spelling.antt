@@ -1,10 +1,10 @@
 -- What an item is spelled like. Assumes nothing.
-use Rattle.std.specs.Prelude.{ℕ, ◌<◌, List, [], map, length, ◌≢◌, slice_index_or}
+use Rattle.std.specs.Prelude.{ℕ, ◌<◌, List, [], map, length, take, ◌≢◌, slice_index_or}
 use Rattle.terms.specs.declared.item.Item.{Item}
 
 -- the letters of an item
 abbrev pub spelled : Item → List ℕ
-spelled x = x.letters.items
+spelled x = take x.len x.letters
 
 -- no two of the items are spelled alike
 abbrev pub Apart : List Item → Type 0

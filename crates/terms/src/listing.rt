@@ -6,7 +6,6 @@ ghost use Rattle.terms.specs.Listing.{listed, ItemRead, Got, Added};
 use crate::item::Item;
 use crate::items::Items;
 use crate::letters::word_at;
-use arrayvec::ArrayVec;
 use refusals::faults::TextFault;
 use std::alloc::{AllocError, Global};
 
@@ -19,15 +18,19 @@ impl Item {
         if word.is_empty() || word.len() < bytes.len() {
             return Err(TextFault::Grammar(word.len() as u32));
         }
-        let letters = ArrayVec::try_from(bytes).unwrap();
-        Ok(Item { letters })
+        let mut letters = [0; 8];
+        letters[..word.len()].copy_from_slice(word);
+        Ok(Item {
+            letters,
+            len: word.len() as u8,
+        })
     }
 
     /// The letters of the item.
     pub fn spelling(&self) -> &[u8]
         ensures { result.now ≡ spelled self.now }
     {
-        &self.letters
+        &self.letters[0..self.len as usize]
     }
 }
 

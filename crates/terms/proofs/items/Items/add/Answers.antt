@@ -1,4 +1,4 @@
-use Rattle.std.proofs.Common.{◌≡◌, ◌∷◌, [], ◌++◌, Decides, map, vec_items, sym, refl, ap, ◌∙◌, subst, arith}
+use Rattle.std.proofs.Common.{◌≡◌, ◌∷◌, [], ◌++◌, ◌&&◌, ◌==◌, Decides, map, vec_items, sym, refl, ap, ◌∙◌, subst, arith}
 use Rattle.std.specs.List.{ContainsAt as Has, IsAnyAnswer}
 use Rattle.std.specs.Str.{bytes_eq}
 use Rattle.std.proofs.lemmas.List.{length-map, map_push}
@@ -13,7 +13,7 @@ use Rattle.terms.proofs.items.Items.add.Goals.{After-contains}
 decided : (c : After-contains) → Decides c.contains.result (Has (listed c.args.self.now) (spelled c.in_ok-new.new))
 decided c =
     has_decides (vec_items c.args.self.now.items) c.in_ok-new.new c.contains.result
-    (subst (λ xs. IsAnyAnswer (λ y b. bytes_eq (spelled y) (spelled c.in_ok-new.new) ≡ b) xs c.contains.result) c.deref.ensures.value c.contains.ensures.cases)
+    (subst (λ xs. IsAnyAnswer (λ y b. (bytes_eq y.letters c.in_ok-new.new.letters && (y.len == c.in_ok-new.new.len)) ≡ b) xs c.contains.result) c.deref.ensures.value c.contains.ensures.cases)
 
 pub returns-then-contains : goal.returns-then-contains
 returns-then-contains c = ((c.in_ok-new.ensures.0, subst (Has (listed c.args.self.now)) c.in_ok-new.ensures.1 ((decided (goal.at.returns-then-contains c).After-contains).0 c.if-contains.true), refl), refl)
