@@ -5,7 +5,7 @@ pub mod grammar;
 pub mod item;
 pub mod items;
 pub mod letters;
-mod listing;
+pub mod listing;
 pub mod looking;
 mod scanner;
 mod scanning;
