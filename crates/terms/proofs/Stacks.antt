@@ -1,6 +1,9 @@
 -- What the flags of a scanner say of the open applications.
-use Rattle.std.proofs.Common.{◌≡◌, ℕ, ◌+◌, ◌<◌, ◌≤◌, Bool, true, false, not, eqb, ltb, ◌&&◌, List, [], ◌∷◌, ◌++◌, length, get_or, Some, None, Option, IsSome, sym, refl, ap, ◌∙◌, arith}
-use Rattle.std.proofs.lemmas.List.{append_cancel_right, get_or_at, length_push}
+use Rattle.std.proofs.Common.{◌≡◌, ℕ, ◌+◌, ◌-◌, ◌<◌, ◌≤◌, Bool, true, false, not, eqb, ltb, ◌&&◌, List, [], ◌∷◌, ◌++◌, length, get_or, take, drop, slice_set, Some, None, Option, IsSome, is_some, sym, refl, ap, ◌∙◌, inl, inr, arith}
+use Rattle.std.specs.List.{slice_get, refill}
+use Rattle.std.proofs.lemmas.List.{append-nil, append_cancel_right, get_or_at, length_push, length-set, take_all, take_at, take_more}
+use Rattle.std.proofs.lemmas.Grind.{take-set_at}
+use Rattle.std.proofs.lemmas.Option.{slice_get_cases}
 use Rattle.std.proofs.lemmas.Bool.{both_ways, cond_both}
 use Rattle.std.specs.Option.{option_eq, option_to_list}
 use mathlib.Core.Bool.{beq}
@@ -41,6 +44,28 @@ not_popped xs ys zs (Some true) true some e h z = both_ways true h refl
 not_popped xs ys zs (Some true) false some e h z = both_ways true (same_end ys zs true false (sym e ∙ z)) refl
 not_popped xs ys zs (Some false) true some e h z = both_ways false refl (same_end ys zs false true (sym e ∙ z))
 not_popped xs ys zs (Some false) false some e h z = both_ways true h refl
+
+-- what stands in the last place of a list of flags, and what is left when that is written
+pub last_place : (xs : List Bool) (r : Option Bool) → r ≡ slice_get xs (length xs - 1) → (xs ≡ take (length xs - 1) xs ++ option_to_list r) × (0 < length xs → IsSome r)
+last_place xs r e =
+    elim (slice_get_cases xs (length xs - 1)).1 [
+      | inl h ↦
+          let is : r ≡ Some h.0 = e ∙ h.2 in
+          let all : take (length xs - 1 + 1) xs ≡ xs = take_all (length xs - 1 + 1) xs (omega arith) in
+          let parts : xs ≡ take (length xs - 1) xs ++ h.0 ∷ [] = sym all ∙ take_more xs (length xs - 1) h.0 h.1 ∙ ap (λ (b : Bool). take (length xs - 1) xs ++ b ∷ []) h.3 in
+          (parts ∙ ap (λ (o : Option Bool). take (length xs - 1) xs ++ option_to_list o) (sym is), (λ _. ap is_some is))
+      | inr h ↦
+          let is : r ≡ None = e ∙ h.1 in
+          let all : take (length xs - 1) xs ≡ xs = take_all (length xs - 1) xs h.0 in
+          (sym (append-nil xs) ∙ ap (λ (ys : List Bool). ys ++ []) (sym all) ∙ ap (λ (o : Option Bool). take (length xs - 1) xs ++ option_to_list o) (sym is), (λ l. absurd (omega arith)))
+    ]
+
+pub last_set : (xs ds : List Bool) (m : ℕ) (v : Bool) → ds ≡ xs → m ≡ length xs - 1 → 0 < length xs → refill (length xs) xs (slice_set ds m v) ≡ take (length xs - 1) xs ++ v ∷ []
+last_set xs ds m v e i l =
+    let ws : List Bool = slice_set xs (length xs - 1) v in
+    let long : length ws ≡ length xs = length-set xs (length xs - 1) v in
+    let same : slice_set ds m v ≡ ws = cc in
+    ap (refill (length xs) xs) same ∙ take_at ws (drop (length ws) xs) (length xs) long ∙ sym (take_all (length xs) ws (omega arith)) ∙ take-set_at xs (length xs - 1) (length xs) v (omega arith) (omega arith)
 
 -- where the innermost open application has no function read, a space goes on to its argument
 pub spaced_goes : (t : Named) (ks : List Frame) (ys : List Bool) → flags ks ≡ ys ++ false ∷ [] → (u : Named) × (js : List Frame) × (spaced t ks ≡ want (argument u ∷ js)) × (ys ≡ flags js)

@@ -11,12 +11,13 @@ pub enum Kind {
     Item,
 }
 
-/// How far the reading has come: a term is due, so many letters of a word are read, or a term was read.
+// Most bytes are letters, and the last variant is the one that LLVM tests first.
+/// How far the reading has come: a term is due, a term was read, or so many letters of a word are read.
 #[derive(Clone, Copy, PartialEq, Eq, Debug)]
 pub enum Mode {
     Term,
-    Spelling(Kind, u8),
     Done,
+    Spelling(Kind, u8),
 }
 
 /// A reader that has come to some byte of a text: for each open application, the outermost first, whether its function was read.

@@ -28,13 +28,13 @@ pub(crate) fn find_fault(text: &[u8]) -> Option<u32>
 }
 
 impl Kind {
-    // The first of the letters that the word is spelt with.
-    fn first_letter(self) -> u8
-        ensures { result ≡ first_letter self }
+    // Whether the byte is one of the letters that the word is spelt with.
+    fn is_spelt_with(self, byte: u8) -> bool
+        ensures { result ≡ letter (first_letter self) byte }
     {
         match self {
-            Kind::Binder | Kind::Name => b'a',
-            Kind::Item => b'A',
+            Kind::Binder | Kind::Name => is_letter(byte, b'a'),
+            Kind::Item => is_letter(byte, b'A'),
         }
     }
 }
@@ -93,7 +93,7 @@ impl Scanner {
     fn spell(&mut self, word: Kind, letters: u8, byte: u8) -> Option<Mode>
         ensures { (w : List ℕ) (ks : List Frame) → letters ≡ length w → self.old.arguments.items ≡ flags ks → Came result self.new (step (spelling word w ks) byte) }
     {
-        if !is_letter(byte, word.first_letter()) {
+        if !word.is_spelt_with(byte) {
             return self.end_word(word, letters, byte);
         }
         (letters < 8).then(|| Mode::Spelling(word, letters + 1))
@@ -125,10 +125,11 @@ impl Scanner {
     fn space(&mut self) -> Option<Mode>
         ensures { (t : Named) (ks : List Frame) → self.old.arguments.items ≡ flags ks → Came result self.new (spaced t ks) }
     {
-        if self.arguments.pop() != Some(false) {
+        if self.arguments.last().copied() != Some(false) {
             return None;
         }
-        self.arguments.push(true);
+        let last = self.arguments.len() - 1;
+        self.arguments[last] = true;
         Some(Mode::Term)
     }
 
