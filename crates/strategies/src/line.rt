@@ -1,5 +1,5 @@
 // What stack and ring share: pairs in the order of their arrival, taken at one end.
-ghost use Rattle.std.specs.Prelude.{◌≡◌, ◌<◌, [], ◌∷◌, ◌++◌, List, length, IfOk};
+ghost use Rattle.std.specs.Prelude.{◌≡◌, [], ◌∷◌, ◌++◌, List, IfOk, MatchOption};
 ghost use Rattle.strategies.specs.declared.pair.Pair.{Pair};
 ghost use Rattle.strategies.specs.Bags.{SameBag};
 ghost use Rattle.strategies.specs.Orders.{earliest_first, line_pairs, LineCleared, LinePut, LineTaken};
@@ -19,10 +19,9 @@ pub trait End {
     /// What a pair that arrives makes of the pairs in that order.
     ghost arrived: { List Pair → Pair → List Pair };
 
-    /// Takes the pair at this end.
-    fn pop(waiting: &mut Arrivals) -> Pair
-        requires { 0 < length (earliest_first waiting.old) }
-        ensures { order (earliest_first waiting.old) ≡ result ∷ order (earliest_first waiting.new) };
+    /// Takes the pair at this end; none exactly where none waits, and then nothing changes.
+    fn pop(waiting: &mut Arrivals) -> Option<Pair>
+        ensures { MatchOption result ((earliest_first waiting.old ≡ []) × (waiting.new ≡ waiting.old)) (λ pair. order (earliest_first waiting.old) ≡ pair ∷ order (earliest_first waiting.new)) };
 
     /// The order drops no pair and adds none.
     ghost same: { (ps : List Pair) → SameBag ps (order ps) };
@@ -74,10 +73,7 @@ impl<E: End> Strategy for Line<E> {
     }
 
     fn take(&mut self) -> Result<Pair, StrategyFault> {
-        if self.waiting.count() == 0 {
-            return Err(StrategyFault::Empty);
-        }
-        Ok(E::pop(&mut self.waiting))
+        E::pop(&mut self.waiting).ok_or(StrategyFault::Empty)
     }
 
     fn count(&self) -> u16 {

@@ -18,8 +18,11 @@ impl End for Earliest {
 
     ghost one_more = { λ _ _. refl };
 
-    fn pop(waiting: &mut Arrivals) -> Pair {
-        waiting.pop_earliest()
+    fn pop(waiting: &mut Arrivals) -> Option<Pair> {
+        if waiting.count() == 0 {
+            return None;
+        }
+        Some(waiting.pop_earliest())
     }
 }
 

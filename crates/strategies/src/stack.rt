@@ -19,8 +19,11 @@ impl End for Latest {
 
     ghost one_more = { λ ps p. reverse-append ps (p ∷ []) };
 
-    fn pop(waiting: &mut Arrivals) -> Pair {
-        waiting.pop_latest()
+    fn pop(waiting: &mut Arrivals) -> Option<Pair> {
+        if waiting.count() == 0 {
+            return None;
+        }
+        Some(waiting.pop_latest())
     }
 }
 
