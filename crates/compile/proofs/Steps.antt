@@ -17,7 +17,7 @@ use Rattle.terms.specs.Bindings.{nothing, Around, meaning, uses, rank_of, term_u
 use Rattle.terms.specs.Texts.{Reads}
 use Rattle.terms.specs.Listing.{listed, Added}
 use Rattle.terms.specs.Scopes.{Surrounding, Found, renumbered}
-use Rattle.terms.specs.Walking.{Later, due, shut, Todo, Due, reading, between, coming_uses, Anything}
+use Rattle.terms.specs.Walking.{Later, due, shut, Todo, Stands, Due, reading, between, coming_uses, Anything}
 use Rattle.terms.specs.declared.items.Items.{Items}
 use Rattle.terms.proofs.Fronts.{name_at, stands_body, stands_function, stands_argument, stands_close, stands_name, stands_item}
 use Rattle.terms.proofs.Scopes.{renumbered_same, held_body, held_argument}
@@ -43,6 +43,10 @@ pub renamed : {text : List ℕ} {T : Named} {q r c : ℕ} {p : Plan} {is js : Li
 renamed {text} {T} {q} {r} {c} {p} {is} {js} {x} {y} {s} {t} {z} w here items spot around binders opened =
     let scopes : s ≡ t = λ i. record { around = sym around i; binders = sym binders i; opened = sym opened i } in
     subst (λ u. Builds text T r p c js y u z) scopes (subst (λ v. Builds text T r p c js v s z) (sym spot) (subst (λ ls. Builds text T r p c ls x s z) (sym items) (subst (λ k. Builds text T k p c is x s z) (sym here) w)))
+
+-- what is to be read stands in the text
+pub stands_there : (b : Builder) (z : Todo) → Reading b z → Stands b.text.now b.at z
+stands_there b z r = r.2.stands
 
 module _ {text : List ℕ} {T : Named} (reads : Reads text T) where
   pub linear : Linear (length (items T)) (term_under (items T) T)

@@ -11,7 +11,7 @@ use Rattle.terms.specs.Bindings.{nothing, placed_under, term_under}
 use Rattle.terms.specs.Texts.{Reads}
 use Rattle.terms.specs.Listing.{listed}
 use Rattle.terms.specs.Scopes.{renumbered}
-use Rattle.terms.specs.Walking.{Later, due, shut, Todo, reading, between, Stands, Held, coming_uses, coming_cells}
+use Rattle.terms.specs.Walking.{Later, due, shut, Todo, reading, between, Stands, Held, Goes, coming_uses, coming_cells}
 use Rattle.terms.specs.declared.items.Items.{Items}
 use Rattle.compile.specs.Linking.{Drafted}
 use Rattle.compile.specs.declared.builder.Open.{Open}
@@ -86,6 +86,10 @@ BuiltTo T b z = Builds b.text.now T b.at (plan b.draft) b.cells (listed b.items)
 -- this is to be read where the walk over a linear term's text has come to
 abbrev pub Reading : Builder → Todo → Type 0
 Reading b z = (T : Named) × Reads b.text.now T × BuiltTo T b z
+
+-- from one place of the text to a later one
+abbrev pub Advances : Builder → Builder → Type 0
+Advances b c = Goes (λ (w : Builder). w.text.now) (λ (w : Builder). w.at) Reading b c
 
 -- a walk before the first byte
 pub record Begins (text : List ℕ) (d : Draft) (is : Items) (b : Builder) : Type 0 where

@@ -1,5 +1,7 @@
 // How a net is built along the text of its term.
-ghost use Rattle.compile.specs.Building.{Reading, Begins};
+ghost use Rattle.std.specs.Prelude.{◌≡◌, [], Some, slice_get};
+ghost use Rattle.terms.specs.Walking.{between, Due, Abstraction, Application, BoundName, AnItem, Argument, Closing, Anything};
+ghost use Rattle.compile.specs.Building.{Reading, Advances, Begins};
 
 use crate::builder::{Builder, Open};
 use crate::linking::{link, place_cell};
@@ -9,7 +11,6 @@ use nets::spot::Spot;
 use terms::items::Items;
 use terms::letters::word_at;
 use terms::looking::find_scope;
-use terms::text_walk::TextWalk;
 
 impl<'t> Builder<'t> {
     /// A walk before the first byte, with the root of the term at end 0.
@@ -28,23 +29,46 @@ impl<'t> Builder<'t> {
             opened: ArrayVec::new(),
         }
     }
-}
 
-impl<'t> TextWalk for Builder<'t> {
-    ghost text = { λ b. b.text.now };
+    /// Walks over the whole text.
+    pub(crate) fn walk(&mut self)
+        requires { Due (Reading self.old) Anything }
+        ensures same { self.new.text.now ≡ self.old.text.now }
+        ensures whole { Reading self.new (between []) }
+    {
+        while let Some(byte) = self.byte() {
+            self.turn(byte);
+        }
+    }
 
-    ghost at = { λ b. b.at };
+    // Takes the next step, by the byte that is there.
+    fn turn(&mut self, byte: u8)
+        requires there { slice_get self.old.text.now self.old.at ≡ Some byte }
+        requires comes { Due (Reading self.old) Anything }
+        ensures { Advances self.old self.new }
+    {
+        match byte {
+            b'\\' => self.enter_body(),
+            b'(' => self.enter_function(),
+            b' ' => self.enter_argument(),
+            b')' => self.leave(),
+            b'a'..=b'z' => self.pass_name(),
+            _ => self.pass_item(),
+        }
+    }
 
-    ghost Reading = { Reading };
-
-    ghost stands = { λ b z r. r.2.stands };
-
-    fn byte(&self) -> Option<u8> {
+    // The byte at the place; none at the end of the text.
+    fn byte(&self) -> Option<u8>
+        ensures { result ≡ slice_get self.now.text.now self.now.at }
+    {
         self.text.get(self.at).copied()
     }
 
-    // The cell of the abstraction meets the spot at port 0, and its body goes to port 2.
-    fn enter_body(&mut self) {
+    // Goes into the body of an abstraction: its cell meets the spot at port 0, and its body goes to port 2.
+    fn enter_body(&mut self)
+        requires { Due (Reading self.old) Abstraction }
+        ensures { Advances self.old self.new }
+    {
         let name = word_at(self.text, self.at + 1, b'a');
         let cell = self.cells;
         place_cell(&mut self.draft, self.spot, cell, 0);
@@ -55,8 +79,11 @@ impl<'t> TextWalk for Builder<'t> {
         self.at += name.len() + 2;
     }
 
-    // The cell of the application meets the spot at port 1, and its function goes to port 0.
-    fn enter_function(&mut self) {
+    // Goes into the function of an application: its cell meets the spot at port 1, and its function goes to port 0.
+    fn enter_function(&mut self)
+        requires { Due (Reading self.old) Application }
+        ensures { Advances self.old self.new }
+    {
         let cell = self.cells;
         place_cell(&mut self.draft, self.spot, cell, 1);
         self.cells += 1;
@@ -68,8 +95,11 @@ impl<'t> TextWalk for Builder<'t> {
         self.at += 1;
     }
 
-    // The argument goes to port 2 of its cell.
-    fn enter_argument(&mut self) {
+    // Goes on to the argument of an application: it goes to port 2 of its cell.
+    fn enter_argument(&mut self)
+        requires { Due (Reading self.old) Argument }
+        ensures { Advances self.old self.new }
+    {
         let last = *self.opened.last().unwrap();
         self.around.truncate(last.around as usize);
         self.binders.truncate(last.around as usize);
@@ -77,21 +107,31 @@ impl<'t> TextWalk for Builder<'t> {
         self.at += 1;
     }
 
-    fn leave(&mut self) {
+    // Leaves an application.
+    fn leave(&mut self)
+        requires { Due (Reading self.old) Closing }
+        ensures { Advances self.old self.new }
+    {
         self.opened.pop();
         self.at += 1;
     }
 
-    // The spot is linked with port 1 of its abstraction.
-    fn pass_name(&mut self) {
+    // Passes a bound name: the spot is linked with port 1 of its abstraction.
+    fn pass_name(&mut self)
+        requires { Due (Reading self.old) BoundName }
+        ensures { Advances self.old self.new }
+    {
         let name = word_at(self.text, self.at, b'a');
         let i = find_scope(self.text, &self.around, name).unwrap();
         link(&mut self.draft, self.spot, Spot::Port(self.binders[i], 1));
         self.at += name.len();
     }
 
-    // The spot is linked with the end of its number.
-    fn pass_item(&mut self) {
+    // Passes an item: the spot is linked with the end of its number.
+    fn pass_item(&mut self)
+        requires { Due (Reading self.old) AnItem }
+        ensures { Advances self.old self.new }
+    {
         let item = word_at(self.text, self.at, b'A');
         self.items.add(item).unwrap();
         let number = self.items.len() as u16;

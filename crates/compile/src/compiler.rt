@@ -9,7 +9,6 @@ use nets::table::Table;
 use std::alloc::Global;
 use terms::items::Items;
 use terms::survey::survey_text;
-use terms::text_walk::TextWalk;
 
 /// The net of a text, and its items in text order: the net's end k is item k.
 #[derive(Drop)]

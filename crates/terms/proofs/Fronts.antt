@@ -1,11 +1,13 @@
 -- What stands at a place of the text of a term.
-use Rattle.std.proofs.Common.{◌≡◌, ℕ, suc, ◌+◌, ◌<◌, ◌≤◌, true, false, List, [], ◌∷◌, ◌++◌, length, get_or, take, drop, sym, refl, ap, ◌∙◌, subst, append_assoc, arith}
+use Rattle.std.proofs.Common.{◌≡◌, ℕ, suc, ◌+◌, ◌<◌, ◌≤◌, true, false, List, [], ◌∷◌, ◌++◌, length, get_or, take, drop, Some, None, leb, inl, inr, sym, refl, ap, ◌∙◌, subst, append_assoc, arith}
+use Rattle.std.specs.List.{slice_get}
 use Rattle.std.proofs.lemmas.List.{length-append, length-drop, drop-drop, drop_at, take_at, get_or-drop, get_or-append-add}
-use Rattle.std.proofs.lemmas.Bool.{both_ways}
+use Rattle.std.proofs.lemmas.Option.{get_or_from_slice_get, slice_get_within, slice_get_cases}
+use Rattle.std.proofs.lemmas.Bool.{both_ways, leb-true, and_parts, cases_Bool}
 use Rattle.terms.specs.Letters.{letter, small, capital, Word, WordAt}
 use Rattle.terms.specs.Named.{Named, bound, item, lam, app, written}
 use Rattle.terms.specs.Bindings.{Around}
-use Rattle.terms.specs.Walking.{Later, due, shut, rest, Todo, reading, between, remaining, Stands, Abstraction, Application, BoundName, AnItem, Argument, Closing}
+use Rattle.terms.specs.Walking.{Later, due, shut, rest, Todo, reading, between, remaining, Stands, Abstraction, Application, BoundName, AnItem, Argument, Closing, Due, Anything}
 use Rattle.terms.proofs.Machine.{capital_sign}
 
 -- what stands after some bytes
@@ -187,3 +189,15 @@ as_item b z e₁ e₂ e₃ e₄ e₅ (bound_name f k) = absurd (both_ways _ e₅
 as_item b z e₁ e₂ e₃ e₄ e₅ (an_item f k) = k
 as_item b z e₁ e₂ e₃ e₄ e₅ (an_argument f k) = absurd (e₃ f)
 as_item b z e₁ e₂ e₃ e₄ e₅ (closing f k) = absurd (e₄ f)
+
+pub no_letter : (b : ℕ) → (97 ≤ b → b ≤ 122 → ⊥) → letter small b ≡ false
+no_letter b h = elim (cases_Bool (letter small b)) [ inl e ↦ (let (low, high) = and_parts (leb 97 b) (leb b 122) e in absurd (h (leb-true 97 b low) (leb-true b 122 high))) | inr e ↦ e ]
+
+-- what the byte says of what is to be read
+pub told : {R K : Todo → Type 0} (text : List ℕ) (at b : ℕ) → slice_get text at ≡ Some b → ((z : Todo) → R z → Stands text at z) → Due R Anything → ((z : Todo) → Which b z → K z) → Due R K
+told {R} {K} text at b here stands (z, _, r) tells =
+    (z, tells z (subst (λ k. Which k z) (get_or_from_slice_get text at b 0 here) (which text at z (slice_get_within text at b here) (stands z r))), r)
+
+-- past the end of the text there is no byte
+pub past : (text : List ℕ) (at : ℕ) → slice_get text at ≡ None → length text ≤ at
+past text at none = elim (slice_get_cases text at).1 [ inl (b, _, some, _) ↦ (let z : ◌≡◌ {A = ℕ} 0 1 = cc in absurd (omega arith)) | inr (end, _) ↦ end ]

@@ -1,4 +1,4 @@
--- A walk over the text of a term: what is to be read, and what a walk knows of what was read. Assumes nothing.
+-- A walk over the text of a term: what private functions tell each other; no public contract cites it. Assumes nothing.
 use Rattle.std.specs.Prelude.{◌≡◌, ℕ, ◌+◌, ◌-◌, ◌<◌, ◌≤◌, Bool, false, List, [], ◌∷◌, ◌++◌, length, drop, Decides, slice_index, slice_index_or}
 use Rattle.std.specs.List.{ContainsAt as Has}
 use Rattle.terms.specs.Named.{Named, bound, item, lam, app, written, Spelt, cells}

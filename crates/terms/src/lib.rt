@@ -13,6 +13,6 @@ pub mod size;
 pub mod survey;
 mod tally;
 mod tallying;
-pub mod text_walk;
+mod text_walk;
 mod walker;
 mod walking;

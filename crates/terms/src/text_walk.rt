@@ -4,7 +4,7 @@ ghost use Rattle.std.specs.List.{slice_get};
 ghost use Rattle.terms.specs.Walking.{Todo, between, Abstraction, Application, BoundName, AnItem, Argument, Closing, Anything, Stands, Due, Goes};
 
 /// A walk over the text of a term, by a byte or by a word at a time.
-pub trait TextWalk {
+pub(crate) trait TextWalk {
     /// The text.
     ghost text: { Self → List ℕ };
 

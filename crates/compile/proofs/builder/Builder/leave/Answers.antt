@@ -2,7 +2,7 @@ use Rattle.std.proofs.Common.{refl, subst, arith}
 use Rattle.terms.specs.Walking.{between}
 use Rattle.compile.specs.Building.{BuiltTo}
 use Rattle.compile.proofs.Steps.{renamed, builds_close}
-use Rattle.compile.proofs.building.BuilderTextWalk.leave.Goals as goal
+use Rattle.compile.proofs.builder.Builder.leave.Goals as goal
 
 pub returns : goal.returns
 returns c =

@@ -9,7 +9,7 @@ use Rattle.terms.proofs.Fronts.{item_at}
 use Rattle.compile.specs.Building.{BuiltTo}
 use Rattle.compile.specs.Linking.{Linked}
 use Rattle.compile.proofs.Steps.{renamed, item_added, item_there, item_apart, builds_item}
-use Rattle.compile.proofs.building.BuilderTextWalk.pass_item.Goals as goal
+use Rattle.compile.proofs.builder.Builder.pass_item.Goals as goal
 
 pub unwrap-requires : goal.unwrap-requires
 unwrap-requires c =

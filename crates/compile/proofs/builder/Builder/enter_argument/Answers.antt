@@ -5,7 +5,7 @@ use Rattle.terms.specs.Walking.{reading, shut}
 use Rattle.compile.specs.Building.{BuiltTo, saved}
 use Rattle.compile.proofs.Layouts.{number_at}
 use Rattle.compile.proofs.Steps.{renamed, builds_argument}
-use Rattle.compile.proofs.building.BuilderTextWalk.enter_argument.Goals as goal
+use Rattle.compile.proofs.builder.Builder.enter_argument.Goals as goal
 
 pub returns : goal.returns
 returns c =

@@ -3,7 +3,7 @@ use Rattle.terms.specs.Walking.{reading, due}
 use Rattle.compile.specs.Building.{BuiltTo}
 use Rattle.compile.proofs.Layouts.{newest}
 use Rattle.compile.proofs.Steps.{renamed, builds_function}
-use Rattle.compile.proofs.building.BuilderTextWalk.enter_function.Goals as goal
+use Rattle.compile.proofs.builder.Builder.enter_function.Goals as goal
 
 pub returns : goal.returns
 returns c =

@@ -8,7 +8,7 @@ use Rattle.terms.proofs.Fronts.{bound_at}
 use Rattle.compile.specs.Building.{BuiltTo}
 use Rattle.compile.specs.Linking.{Linked}
 use Rattle.compile.proofs.Steps.{renamed, name_found, name_some, name_apart, builds_name}
-use Rattle.compile.proofs.building.BuilderTextWalk.pass_name.Goals as goal
+use Rattle.compile.proofs.builder.Builder.pass_name.Goals as goal
 
 pub unwrap-i-requires : goal.unwrap-i-requires
 unwrap-i-requires c =

@@ -3,7 +3,7 @@ use Rattle.terms.specs.Walking.{reading}
 use Rattle.terms.proofs.Fronts.{name_at}
 use Rattle.compile.specs.Building.{BuiltTo}
 use Rattle.compile.proofs.Steps.{renamed, builds_body}
-use Rattle.compile.proofs.building.BuilderTextWalk.enter_body.Goals as goal
+use Rattle.compile.proofs.builder.Builder.enter_body.Goals as goal
 
 pub returns : goal.returns
 returns c =
