@@ -1,4 +1,8 @@
 // A rule as the code holds it: a plain table.
+ghost use Rattle.std.specs.Prelude.{◌≡◌};
+ghost use Rattle.books.specs.Tables.{joined, wires_of};
+ghost use Rattle.std.specs.Option.{option_map};
+ghost use Rattle.std.specs.List.{slice_get};
 
 /// A port that a rule speaks of: port j of L is `L(j)`, of R `R(j)`, of the new cell N1 `N(0, j)`, of N2 `N(1, j)`, and so on.
 #[derive(Clone, Copy, Debug, PartialEq, Eq)]
@@ -26,4 +30,13 @@ pub struct RuleTable<'a> {
     pub right: u8,
     pub cells: &'a [Cell],
     pub wires: &'a [Wire],
+}
+
+impl RuleTable<'_> {
+    /// Wire `i` of the rule, counted from 0, or `None` past the last.
+    pub fn wire(&self, i: usize) -> Option<Wire>
+        ensures { option_map joined result ≡ slice_get (wires_of self.now) i }
+    {
+        self.wires.get(i).copied()
+    }
 }
