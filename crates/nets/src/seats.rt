@@ -22,10 +22,12 @@ pub(crate) fn take_places(
 {
     let low = left.min(right);
     let high = left.max(right);
-    if cells < 1 {
+    let low_leaves = cells < 1;
+    if low_leaves {
         flip(map, low);
     }
-    if cells < 2 {
+    let high_leaves = cells < 2;
+    if high_leaves {
         flip(map, high);
     }
     let third = if cells > 2 { take_vacant(map) } else { 0 };

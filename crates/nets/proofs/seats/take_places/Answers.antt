@@ -4,7 +4,7 @@ use Rattle.std.proofs.lemmas.List.{get_or-take, length-take-le}
 use Rattle.nets.specs.Seating.{FlippedIf, Taken, Seated}
 use Rattle.nets.proofs.Counting.{fourth_room}
 use Rattle.nets.proofs.seats.take_places.Goals as goal
-use Rattle.nets.proofs.seats.take_places.Goals.{then-cells-lt1, else-cells-lt1, then-cells-lt2, else-cells-lt2, then-cells-gt2, else-cells-gt2, then-cells-gt3, else-cells-gt3}
+use Rattle.nets.proofs.seats.take_places.Goals.{then-low_leaves, else-low_leaves, then-high_leaves, else-high_leaves, then-cells-gt2, else-cells-gt2, then-cells-gt3, else-cells-gt3}
 
 is_less : (a b : ℕ) → a < b → true ≡ ltb a b
 is_less a b h = grind (arith)
@@ -28,10 +28,11 @@ not_taken n k p ms {ns} h e = subst (λ (b : Bool). Taken b ms p ns) (not_less k
 
 pub take_vacant-fourth-requires : goal.take_vacant-fourth-requires
 take_vacant-fourth-requires c =
-    fourth_room c.args.cells c.min-low.result c.max-high.result c.if-cells-gt2.third c.args.map.now c.if-cells-lt1.map c.if-cells-lt2.map c.if-cells-gt2.map
+    let many : 3 < c.args.cells = c.if-cells-gt3.true in
+    fourth_room c.args.cells c.min-low.result c.max-high.result c.if-cells-gt2.third c.args.map.now c.if-low_leaves.map c.if-high_leaves.map c.if-cells-gt2.map
     c.requires.room
-    (elim c.if-cells-lt1.branch [ then-cells-lt1 w ↦ flipped c.args.cells 1 _ _ w.if-cells-lt1.true w.map-is w.flip.ensures | else-cells-lt1 w ↦ left_alone c.args.cells 1 _ _ w.if-cells-lt1.false w.map-is ])
-    (elim c.if-cells-lt2.branch [ then-cells-lt2 w ↦ flipped c.args.cells 2 _ _ w.if-cells-lt2.true w.map-is w.flip-then-cells-lt2.ensures | else-cells-lt2 w ↦ left_alone c.args.cells 2 _ _ w.if-cells-lt2.false w.map-is ])
+    (left_alone c.args.cells 1 _ _ (omega arith) (elim c.if-low_leaves.branch [ then-low_leaves w ↦ absurd (omega arith) | else-low_leaves w ↦ w.map-is ]))
+    (left_alone c.args.cells 2 _ _ (omega arith) (elim c.if-high_leaves.branch [ then-high_leaves w ↦ absurd (omega arith) | else-high_leaves w ↦ w.map-is ]))
     (elim c.if-cells-gt2.branch [ then-cells-gt2 w ↦ taken c.args.cells 2 _ w.if-cells-gt2.true w.map-is w.third-is w.take_vacant-third.ensures | else-cells-gt2 w ↦ not_taken c.args.cells 2 _ _ w.if-cells-gt2.false w.map-is ])
     (sym (is_less 3 c.args.cells c.if-cells-gt3.true))
 
@@ -64,9 +65,9 @@ seated p q n low high third fourth ms ls rs ts ns ps few e f a b c d is = record
 pub returns : goal.returns
 returns c =
     seated c.args.left c.args.right c.args.cells c.min-low.result c.max-high.result c.if-cells-gt2.third c.if-cells-gt3.fourth
-    c.args.map.now c.if-cells-lt1.map c.if-cells-lt2.map c.if-cells-gt2.map c.if-cells-gt3.map _ c.requires.few c.min-low.ensures c.max-high.ensures
-    (elim c.if-cells-lt1.branch [ then-cells-lt1 w ↦ flipped c.args.cells 1 _ _ w.if-cells-lt1.true w.map-is w.flip.ensures | else-cells-lt1 w ↦ left_alone c.args.cells 1 _ _ w.if-cells-lt1.false w.map-is ])
-    (elim c.if-cells-lt2.branch [ then-cells-lt2 w ↦ flipped c.args.cells 2 _ _ w.if-cells-lt2.true w.map-is w.flip-then-cells-lt2.ensures | else-cells-lt2 w ↦ left_alone c.args.cells 2 _ _ w.if-cells-lt2.false w.map-is ])
+    c.args.map.now c.if-low_leaves.map c.if-high_leaves.map c.if-cells-gt2.map c.if-cells-gt3.map _ c.requires.few c.min-low.ensures c.max-high.ensures
+    (elim c.if-low_leaves.branch [ then-low_leaves w ↦ flipped c.args.cells 1 _ _ (omega arith) w.map-is w.flip.ensures | else-low_leaves w ↦ left_alone c.args.cells 1 _ _ (omega arith) w.map-is ])
+    (elim c.if-high_leaves.branch [ then-high_leaves w ↦ flipped c.args.cells 2 _ _ (omega arith) w.map-is w.flip-then-high_leaves.ensures | else-high_leaves w ↦ left_alone c.args.cells 2 _ _ (omega arith) w.map-is ])
     (elim c.if-cells-gt2.branch [ then-cells-gt2 w ↦ taken c.args.cells 2 _ w.if-cells-gt2.true w.map-is w.third-is w.take_vacant-third.ensures | else-cells-gt2 w ↦ not_taken c.args.cells 2 _ _ w.if-cells-gt2.false w.map-is ])
     (elim c.if-cells-gt3.branch [ then-cells-gt3 w ↦ taken c.args.cells 3 _ w.if-cells-gt3.true w.map-is w.fourth-is w.take_vacant-fourth.ensures | else-cells-gt3 w ↦ not_taken c.args.cells 3 _ _ w.if-cells-gt3.false w.map-is ])
     (c.truncate.ensures.items ∙ ap (take c.args.cells) c.from_array_in-places.ensures.items)
