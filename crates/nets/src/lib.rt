@@ -3,7 +3,7 @@
 
 mod by_book;
 pub mod draft;
-mod drafting;
+pub mod drafting;
 pub mod fault;
 mod fitting;
 mod lay;
@@ -15,4 +15,4 @@ mod seats;
 mod splice;
 pub mod spot;
 pub mod table;
-mod view;
+pub mod view;
