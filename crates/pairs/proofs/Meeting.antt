@@ -1,6 +1,6 @@
 -- The active pair at a place, by kinds and facing. Assumes nothing.
 use Rattle.std.proofs.lemmas.List.{length-map}
-use Rattle.std.proofs.Common.{◌≡◌, ℕ, ◌<◌, ◌≤◌, ◌≢◌, ◌⊎◌, length, Some, None, sym, refl, ap, ◌∙◌, subst, inl, inr, arith}
+use Rattle.std.proofs.Common.{◌≡◌, ℕ, ◌<◌, ◌≤◌, ◌≢◌, ◌⊎◌, length, Some, None, Option, sym, refl, ap, ◌∙◌, subst, inl, inr, arith}
 use Rattle.calculus.specs.Spots.{Spot, port}
 use Rattle.calculus.specs.Books.{RuleBook, Laws}
 use Rattle.calculus.specs.Nets.{Net, Active, Pair as CPair}
@@ -16,6 +16,17 @@ two_cells K A P act e =
     let y : P.rule.left ≡ P.rule.right = cc in
     let z = act.first y in
     omega arith
+
+-- from L's principal port R is seen
+pub right_across : (K : RuleBook) (A : Net) (P : CPair) → Active K A P → (o : Option ℕ) → Across A (port P.left 0) o → o ≡ Some P.right
+right_across K A P act None n =
+    let z : port P.right 0 ≡ port P.left 0 = sym act.facing ∙ n P.right act.facing in
+    let e : P.left ≡ P.right = cc in
+    absurd (two_cells K A P act e)
+right_across K A P act (Some r) f =
+    let z : port r 0 ≡ port P.right 0 = sym f.0 ∙ act.facing in
+    let e : r ≡ P.right = cc in
+    ap (λ (v : ℕ). Some v) e
 
 module _ (K : RuleBook) (laws : Laws K) (A : Net) (twice : (x : Spot) → A.mate (A.mate x) ≡ x) where
   -- what is seen from one of its cells

@@ -2,10 +2,12 @@
 ghost use Rattle.nets.specs.ByBook.{PairDue};
 ghost use Rattle.pairs.specs.Forming.{Forms};
 
+use crate::active::cell_across;
 use crate::gather::{gather, neighbours};
 use arrayvec::ArrayVec;
 use books::book::Book;
 use nets::fault::PairFault;
+use nets::spot::Spot;
 use nets::table::Table;
 use strategies::pair::Pair;
 
@@ -20,6 +22,10 @@ pub fn rewrite_pair<B: Book>(
     ensures due { PairDue (B.meaning book.now) table.old left right table.new result }
     ensures forms { Forms (B.meaning book.now) table.old left right table.new result }
 {
+    // before the neighbours are gathered, which a refusal has no use for
+    if cell_across(table, Spot::Port(left, 0)) != Some(right) {
+        return Err(PairFault::NotReady);
+    }
     let mut cells = neighbours(table, left, right);
     let places = table.rewrite_pair(book, left, right)?;
     cells.try_extend_from_slice(&places).unwrap();
