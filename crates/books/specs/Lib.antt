@@ -1,3 +1,5 @@
 pub mod Tables
 pub mod Answers
 pub mod Shelves
+pub mod Owning
+pub mod OneRule

@@ -1,6 +1,5 @@
 // What a rule book answers.
 ghost use Rattle.std.specs.Prelude.{◌≡◌};
-ghost use Rattle.std.specs.Option.{option_map};
 ghost use Rattle.calculus.specs.Books.{RuleBook, Laws};
 ghost use Rattle.books.specs.Answers.{Answers};
 
@@ -20,8 +19,8 @@ pub trait Book {
         ensures { result ≡ (meaning self.now).arity kind };
 
     /// The rule for two kinds, in either order, or `None` where the book has none.
-    fn rule(&self, a: u8, b: u8) -> Option<&RuleTable>
-        ensures { Answers (meaning self.now) a b (option_map (λ x. x.now) result) };
+    fn rule(&self, a: u8, b: u8) -> Option<RuleTable<'_>>
+        ensures { Answers (meaning self.now) a b result };
 
     // It keeps the laws of a rule book.
     ghost lawful: { (b : Self) → Laws (meaning b) };

@@ -144,7 +144,7 @@ impl Book for Combinators {
         ARITIES.get(kind as usize).copied()
     }
 
-    fn rule(&self, a: u8, b: u8) -> Option<&RuleTable> {
+    fn rule(&self, a: u8, b: u8) -> Option<RuleTable<'_>> {
         look(&RULES, a, b)
     }
 }

@@ -85,7 +85,7 @@ impl Book for Counts {
         ARITIES.get(kind as usize).copied()
     }
 
-    fn rule(&self, a: u8, b: u8) -> Option<&RuleTable> {
+    fn rule(&self, a: u8, b: u8) -> Option<RuleTable<'_>> {
         look(&RULES, a, b)
     }
 }

@@ -4,5 +4,8 @@
 pub mod book;
 pub mod combinators;
 pub mod counts;
+mod owning;
 mod shelf;
 pub mod table;
+#[cfg(test)]
+mod tests;

@@ -1,5 +1,4 @@
 // Where a book keeps its rules. Each book is a type, as all values of a type mean one book; what books share is this look-up.
-ghost use Rattle.std.specs.Option.{option_map};
 ghost use Rattle.books.specs.Shelves.{Looked};
 
 use crate::table::RuleTable;
@@ -9,9 +8,9 @@ pub(crate) fn look<'a>(
     rules: &'a [&'a [Option<&'a RuleTable<'a>>]],
     a: u8,
     b: u8,
-) -> Option<&'a RuleTable<'a>>
-    ensures { Looked rules.now a b (option_map (λ x. x.now) result) }
+) -> Option<RuleTable<'a>>
+    ensures { Looked rules.now a b result }
 {
     let row = rules.get(a as usize)?;
-    *row.get(b as usize)?
+    row.get(b as usize)?.copied()
 }

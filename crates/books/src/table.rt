@@ -1,5 +1,5 @@
 // A rule as the code holds it: a plain table.
-ghost use Rattle.std.specs.Prelude.{◌≡◌};
+ghost use Rattle.std.specs.Prelude.{◌≡◌, ◌≤◌, length};
 ghost use Rattle.books.specs.Tables.{joined, wires_of};
 ghost use Rattle.std.specs.Option.{option_map};
 ghost use Rattle.std.specs.List.{slice_get};
@@ -30,6 +30,19 @@ pub struct RuleTable<'a> {
     pub right: u8,
     pub cells: &'a [Cell],
     pub wires: &'a [Wire],
+}
+
+/// A rule with room of its own for up to four new cells and eight wires: what is kept where nothing lends the slices of a `RuleTable`.
+#[derive(Clone, Copy)]
+pub struct OwnedRule {
+    pub(crate) left: u8,
+    pub(crate) right: u8,
+    pub(crate) cells: [Cell; 4],
+    pub(crate) cell_count: u8,
+    pub(crate) wires: [Wire; 8],
+    pub(crate) wire_count: u8,
+    ghost room: { (length cells ≡ 4) × (length wires ≡ 8) },
+    ghost few: { (cell_count ≤ 4) × (wire_count ≤ 8) },
 }
 
 impl RuleTable<'_> {

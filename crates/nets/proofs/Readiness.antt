@@ -1,5 +1,5 @@
 -- Which pair of places is ready to be rewritten, and that its rule fits. Assumes nothing.
-use Rattle.std.proofs.Common.{◌≡◌, ℕ, ◌+◌, ◌<◌, ◌≤◌, ◌≢◌, length, get_or, Some, None, Ok, Err, vec_items, Result, Bor, sym, refl, ap, ◌∙◌, subst, inl, inr, arith}
+use Rattle.std.proofs.Common.{◌≡◌, ℕ, ◌+◌, ◌<◌, ◌≤◌, ◌≢◌, length, get_or, Some, None, Ok, Err, vec_items, Result, sym, refl, ap, ◌∙◌, subst, inl, inr, arith}
 use Rattle.std.specs.List.{slice_get}
 use Rattle.std.specs.Result.{result_err}
 use Rattle.calculus.specs.Spots.{port}
@@ -147,6 +147,6 @@ module _ (K : RuleBook) (laws : Laws K) (t : Table) (p q : ℕ) (r : RuleTable) 
       λ i. record { left = sym at.0 i; right = sym at.1 i; position = o.1 i; rule = o.0 i }
 
 -- what is against the pair, if anything is
-pub against : (K : RuleBook) → Laws K → (t : Table) (p q : ℕ) (x : Result (Bor RuleTable) PairFault) → RuleChecked K t p q x → Against K t p q (result_err x)
-against K laws t p q (Ok r) h = (P K laws t p q r.now h.0, (refl, refl), allowed K laws t p q r.now h.0 (h.1, h.2))
+pub against : (K : RuleBook) → Laws K → (t : Table) (p q : ℕ) (x : Result RuleTable PairFault) → RuleChecked K t p q x → Against K t p q (result_err x)
+against K laws t p q (Ok r) h = (P K laws t p q r h.0, (refl, refl), allowed K laws t p q r h.0 (h.1, h.2))
 against K laws t p q (Err e) h = h

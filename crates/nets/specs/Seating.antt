@@ -1,6 +1,5 @@
 -- What the private functions that seat the new cells and replace a pair tell each other; no public contract cites it. Assumes nothing.
 use Rattle.std.specs.Prelude.{◌≡◌, ℕ, zero, suc, ◌+◌, ◌-◌, ◌<◌, ◌≤◌, min, max, Bool, true, false, ◌≢◌, List, length, Some, None, Ok, Err, Option, Result, nat_lt}
-use Rattle.std.specs.Borrow.{Bor}
 use Rattle.calculus.specs.Books.{Rule, RuleBook, Laws}
 use Rattle.calculus.specs.Nets.{Net, Active}
 use Rattle.books.specs.declared.table.RuleTable.{RuleTable}
@@ -84,8 +83,8 @@ Limiting t n (Err Loops) = LoopsFree t → ⊥
 Limiting t n (Err Places) = LoopsFree t × (RoomFor t n → ⊥)
 
 -- the rule by which the pair in these places can be rewritten, or what is against that
-abbrev pub RuleChecked : RuleBook → Table → ℕ → ℕ → Result (Bor RuleTable) PairFault → Type 0
-RuleChecked K t p q (Ok r) = RuleReady K t p q r.now × LoopsFree t × RoomFor t (length r.now.cells.now)
+abbrev pub RuleChecked : RuleBook → Table → ℕ → ℕ → Result RuleTable PairFault → Type 0
+RuleChecked K t p q (Ok r) = RuleReady K t p q r × LoopsFree t × RoomFor t (length r.cells.now)
 RuleChecked K t p q (Err e) = PairCause K t p q e
 
 -- a limit as a fault of the one call and of the other

@@ -1,5 +1,4 @@
 // The active pair in two places of a table rewritten by the book.
-ghost use Rattle.std.specs.Option.{option_map};
 ghost use Rattle.nets.specs.ByBook.{Against, PairDue, RewritesPair};
 ghost use Rattle.nets.specs.Seating.{Chosen, RuleChecked};
 
@@ -23,7 +22,7 @@ impl Table {
         ensures rewrites { RewritesPair (B.meaning book.now) self.old left right self.new result }
     {
         let rule = self.check_rule(book, left, right)?;
-        Ok(self.replace(left, right, rule))
+        Ok(self.replace(left, right, &rule))
     }
 
     /// What is against the rewrite of the pair in two places, L first, if anything is.
@@ -40,7 +39,7 @@ impl Table {
         book: &'a B,
         left: u16,
         right: u16,
-    ) -> Result<&'a RuleTable<'a>, PairFault>
+    ) -> Result<RuleTable<'a>, PairFault>
         ensures { RuleChecked (B.meaning book.now) self.now left right result }
     {
         let rule = self.rule(book, left, right).ok_or(PairFault::NotReady)?;
@@ -49,8 +48,8 @@ impl Table {
     }
 
     // The rule of the pair in two places, L first, if the pair is active and its cells have the book's arities.
-    fn rule<'a, B: Book>(&self, book: &'a B, left: u16, right: u16) -> Option<&'a RuleTable<'a>>
-        ensures { Chosen (B.meaning book.now) self.now left right (option_map (λ x. x.now) result) }
+    fn rule<'a, B: Book>(&self, book: &'a B, left: u16, right: u16) -> Option<RuleTable<'a>>
+        ensures { Chosen (B.meaning book.now) self.now left right result }
     {
         if !self.are_facing(left, right) {
             return None;

@@ -29,17 +29,17 @@ returns-in_err-rule g c =
 pub overflow_cast-cells : goal.overflow_cast-cells
 overflow_cast-cells g c =
     let n = few (g.B.Book.meaning c.args.book.now) (g.met.B.Book.lawful c.args.book.now) (net c.args.table.now) (twice c.args.table.now) c.args.place c.in_ok-other.other
-    c.in_ok-other.ensures.0 c.in_ok-kind.kind c.in_ok-across.across (sym c.in_ok-kind.ensures) (sym c.in_ok-across.ensures) c.in_ok-rule.rule.now c.in_ok-rule.ensures in
+    c.in_ok-other.ensures.0 c.in_ok-kind.kind c.in_ok-across.across (sym c.in_ok-kind.ensures) (sym c.in_ok-across.ensures) c.in_ok-rule.rule c.in_ok-rule.ensures in
     omega arith
 
 pub returns-then-is_left : goal.returns-then-is_left
 returns-then-is_left g c =
     as_left (g.B.Book.meaning c.args.book.now) (g.met.B.Book.lawful c.args.book.now) (net c.args.table.now) (twice c.args.table.now) c.args.place c.in_ok-other.other
     c.in_ok-other.ensures.0 c.in_ok-kind.kind c.in_ok-across.across (sym c.in_ok-kind.ensures) (sym c.in_ok-across.ensures)
-    c.in_ok-rule.rule.now c.in_ok-rule.ensures (c.if-is_left.ensures)
+    c.in_ok-rule.rule c.in_ok-rule.ensures (c.if-is_left.ensures)
 
 pub returns-else-is_left : goal.returns-else-is_left
 returns-else-is_left g c =
     as_right (g.B.Book.meaning c.args.book.now) (g.met.B.Book.lawful c.args.book.now) (net c.args.table.now) (twice c.args.table.now) c.args.place c.in_ok-other.other
     c.in_ok-other.ensures.0 c.in_ok-kind.kind c.in_ok-across.across (sym c.in_ok-kind.ensures) (sym c.in_ok-across.ensures)
-    c.in_ok-rule.rule.now c.in_ok-rule.ensures c.in_ok-other.ensures.1 (c.if-is_left.ensures)
+    c.in_ok-rule.rule c.in_ok-rule.ensures c.in_ok-other.ensures.1 (c.if-is_left.ensures)

@@ -43,13 +43,13 @@ returns-then-rule-first g c =
     elim c.then-rule-first.branch [
       | then-rule-first-via-then-rule-first w ↦
           other_left (g.B.Book.meaning c.args.book.now) (g.met.B.Book.lawful c.args.book.now) c.args.self.now c.args.left c.args.right F
-          c.index.result.now.kind c.index-2.result.now.kind k l c.in_ok-rule.rule.now c.in_ok-rule.ensures w.if-rule-first.true
+          c.index.result.now.kind c.index-2.result.now.kind k l c.in_ok-rule.rule c.in_ok-rule.ensures w.if-rule-first.true
       | then-rule-first-via-else-rule-first+then-rule-second w ↦
           other_right (g.B.Book.meaning c.args.book.now) (g.met.B.Book.lawful c.args.book.now) c.args.self.now c.args.left c.args.right F
-          c.index.result.now.kind c.index-2.result.now.kind k l c.in_ok-rule.rule.now c.in_ok-rule.ensures w.if-rule-second.true
+          c.index.result.now.kind c.index-2.result.now.kind k l c.in_ok-rule.rule c.in_ok-rule.ensures w.if-rule-second.true
       | then-rule-first-via-else-rule-first+else-rule-second+then-right-left w ↦
           turned_round (g.B.Book.meaning c.args.book.now) (g.met.B.Book.lawful c.args.book.now) c.args.self.now c.args.left c.args.right F
-          c.index.result.now.kind c.index-2.result.now.kind k l c.in_ok-rule.rule.now c.in_ok-rule.ensures
+          c.index.result.now.kind c.index-2.result.now.kind k l c.in_ok-rule.rule c.in_ok-rule.ensures
           w.if-right-left.true.0 w.if-right-left.true.1
     ]
 
@@ -77,7 +77,7 @@ pub returns : goal.returns
 returns g c =
     let F = c.if-not-are_facing.ensures in
     rule_ready (g.B.Book.meaning c.args.book.now) (g.met.B.Book.lawful c.args.book.now) c.args.self.now c.args.left c.args.right F
-    c.index.result.now.kind c.index-2.result.now.kind (p_kind c.args.self.now c.args.left c.args.right F c.index.result.now c.index.ensures) (q_kind c.args.self.now c.args.left c.args.right F c.index-2.result.now c.index-2.ensures) c.in_ok-rule.rule.now c.in_ok-rule.ensures
+    c.index.result.now.kind c.index-2.result.now.kind (p_kind c.args.self.now c.args.left c.args.right F c.index.result.now c.index.ensures) (q_kind c.args.self.now c.args.left c.args.right F c.index-2.result.now c.index-2.ensures) c.in_ok-rule.rule c.in_ok-rule.ensures
     c.if-rule-first.false c.if-rule-second.false
     (λ e. elim c.if-right-left.either [
       | inr n ↦ absurd (n e)
