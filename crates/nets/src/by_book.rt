@@ -30,7 +30,14 @@ impl Table {
     pub fn check_pair<B: Book>(&self, book: &B, left: u16, right: u16) -> Option<PairFault>
         ensures { Against (B.meaning book.now) self.now left right result }
     {
-        self.check_rule(book, left, right).err()
+        // by itself, so that a caller that asks only whether the pair is ready counts no cells
+        let Some(rule) = self.rule(book, left, right) else {
+            return Some(PairFault::NotReady);
+        };
+        match self.check_limits(rule.cells.len()) {
+            Ok(()) => None,
+            Err(limit) => Some(PairFault::from(limit)),
+        }
     }
 
     // The rule by which the pair in two places, L first, can be rewritten, or what is against that.
